@@ -18,9 +18,8 @@ use Rattle.cobs.specs.declared.error.DecodeError.TheVariants.{InvalidFrame, Targ
 use Rattle.cobs.proofs.format.FrameLemmas.{frame_output}
 use Rattle.cobs.proofs.decoding.KeptLemmas.{all-kept}
 use Rattle.cobs.proofs.decoding.OutcomeLemmas.{first_piece_alone, head_alone, length-head, outcome_message, outcome_says, output_within}
-use Rattle.cobs.proofs.decoding.OutcomeSteps.{result_by_piece}
 use Rattle.cobs.proofs.decoding.ReadsLemmas.{frame_piece}
-use Rattle.cobs.proofs.decoding.SourceSteps.{result-fits, result-too_long}
+use Rattle.cobs.proofs.decoding.SourceSteps.{result-fits}
 use Rattle.cobs.proofs.decoding.VectorSteps.{kept_within, overwritten-begins}
 
 -- the elements of a slice of bytes are below 256
@@ -60,7 +59,7 @@ reports parsed result buffer m P h = grind arith
 
 result_of_decode_alone : (f : List ℕ) (n : ℕ) → IsPiece f → result_of_decode f n ≡ report_result (len_through_piece f f) (outcome_result (outcome_of f n))
 result_of_decode_alone [] n piece = grind arith
-result_of_decode_alone (byte ∷ bytes) n piece = grind (arith, result_by_piece, first_piece_alone)
+result_of_decode_alone (byte ∷ bytes) n piece = grind (arith, first_piece_alone)
 
 -- `decode` reports the outcome of a piece
 decode-reported : (f buffer buffer' : List ℕ) (outcome : Outcome) → outcome_of f (length buffer) ≡ outcome → buffer' ≡ overwritten buffer (output f)
@@ -103,7 +102,7 @@ result_of_sentinel_decode_alone (byte ∷ bytes) n piece = grind (arith, head_al
 -- a piece that is broken or too long is rejected
 within-rejected : (f : List ℕ) (n : ℕ) → f ≢ [] → (is_whole f ≡ false) ⊎ (n < length (output f)) → (error : DecodeError) × (head_result_within f n ≡ Err error)
 within-rejected f n some either = elim (cases_lt n (length (kept_output f))) [
-  | inl more ↦ (TargetBufTooSmall, grind (arith, result-too_long))
+  | inl more ↦ (TargetBufTooSmall, grind arith)
   | inr fits ↦ (InvalidFrame (length (kept_output f)), grind (arith, all-kept, cases_Bool, result-fits))
 ]
 
@@ -143,7 +142,7 @@ module _ (f old : List ℕ) (result : Result ℕ DecodeError) (new : List ℕ) (
 
 in_place-source : (f : List ℕ) → result_in_place f ≡ result_of_sentinel_decode f (length f)
 in_place-source [] = refl
-in_place-source (byte ∷ bytes) = grind (arith, result-fits, kept_within, length-head)
+in_place-source (byte ∷ bytes) = grind (arith, kept_within, length-head)
 
 in_place-room : (f : List ℕ) (result : Result DecodeReport DecodeError) → result ≡ in_place_report f → IfErr result (λ error. error ≢ TargetBufTooSmall)
 in_place-room [] result is = grind arith

@@ -1,6 +1,5 @@
 -- A buffer as long as the source has room for all bytes that are decoded from the source, by `output_within`.
 use Rattle.std.proofs.Common.{◌≡◌, ◌≢◌, ℕ, zero, suc, ◌<◌, ◌≤◌, List, [], ◌∷◌, length, take, Option, Some, None, Result, Ok, Err, if◌then◌else◌, arith, take_at, take_all, length-take}
-use Rattle.std.proofs.lemmas.Bool.{le-leb}
 use Rattle.cobs.specs.Overwritten.{overwritten}
 use Rattle.cobs.specs.Piece.{output, is_whole, kept_output}
 use Rattle.cobs.specs.Stream.{outcome_of, first_piece, head}
@@ -27,7 +26,7 @@ first_piece_within (suc b ∷ t) p is = grind (arith, first_piece_head, length-h
 -- the outcome of a piece whose output has room
 outcome_result-fits : (p : List ℕ) (n : ℕ) → length (output p) ≤ n → outcome_result (outcome_of p n) ≡ (if is_whole p then Ok (length (output p)) else Err (InvalidFrame (length (output p))))
 unfolding outcome_of
-outcome_result-fits p n fits = grind (arith, le-leb)
+outcome_result-fits p n fits = grind arith
 
 -- a kept output is no longer than the output
 pub kept_within : (p : List ℕ) → length (kept_output p) ≤ length p
@@ -53,11 +52,11 @@ module _ (source : List ℕ) (n : ℕ) (room : n ≡ length source) where
   decoded-is some = grind arith
 
   pub decoded-rejected : (error : DecodeError) → 0 < length source → Err error ≡ result_of_decode source n → Rejected (decoded source) error
-  decoded-rejected error some e = grind (arith, decoded-is, first_piece_within, output_within, outcome_result-fits, result-equals)
+  decoded-rejected error some e = grind (arith, first_piece_within, output_within, outcome_result-fits, result-equals)
 
   pub decoded-message : (report : DecodeReport) (old new : List ℕ) → 0 < length source → length old ≡ n → Ok report ≡ result_of_decode source n → new ≡ overwritten old (first_output source)
       → decoded source ≡ Ok (take (frame_size_of report) new)
-  decoded-message report old new some long e is = grind (arith, decoded-is, piece-message, result-equals)
+  decoded-message report old new some long e is = grind (arith, piece-message, result-equals)
 
   -- THE BYTES BEFORE THE FIRST ZERO
 

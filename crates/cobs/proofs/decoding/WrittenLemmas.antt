@@ -2,9 +2,9 @@
 -- of the piece are still to be decoded (`Left`), or a block and the bytes after it are (`BlockLeft`): its bytes are
 -- written first, and then a zero if it isn't full and other bytes follow it. They cut p after its first block (`kept-joined`).
 use Rattle.std.proofs.Common.{All, ◌≡◌, ◌≢◌, ◌∙◌, ◌+◌, ◌-◌, ◌<◌, ◌≤◌, ◌⊎◌, ◌==◌, ℕ, Bool, true, false, cond, if◌then◌else◌, List, [], ◌∷◌, ◌++◌, length, take, drop, get_or, set, Result, Ok, Err, refl, ap, arith, append_assoc, append-nil, drop_at, length-append, length-drop, length-take-le, take-append-drop, take_all, take_at}
-use Rattle.std.proofs.lemmas.Bool.{eq-eqb, ne_eqb, cases_Bool}
+use Rattle.std.proofs.lemmas.Bool.{cases_Bool}
 use Rattle.std.proofs.lemmas.List.{drop-drop, drop_all, drop_more, get_or-drop, set_at, nil_from_length}
-use Rattle.std.proofs.lemmas.List.Elements.{All-drop, All-get_or, All-take}
+use Rattle.std.proofs.lemmas.List.Elements.{All-drop, All-take}
 use Rattle.std.proofs.lemmas.Grind.{common_steps}
 use Rattle.cobs.specs.Decode.{head_result}
 use Rattle.cobs.specs.Grammar.{HasNoZero, IsBlock, joint}
@@ -30,11 +30,11 @@ zero_before code (byte ∷ bytes) = if code == 255 then [] else 0 ∷ []
 
 pub zero_before-none : (code : ℕ) (next : List ℕ) → (length next ≡ 0) ⊎ (code ≡ 255) → zero_before code next ≡ []
 zero_before-none code [] none = refl
-zero_before-none code (byte ∷ next) none = grind (arith, eq-eqb)
+zero_before-none code (byte ∷ next) none = grind arith
 
 pub zero_before-some : (code : ℕ) (next : List ℕ) → 0 < length next → code ≢ 255 → zero_before code next ≡ 0 ∷ []
 zero_before-some code [] some other = grind arith
-zero_before-some code (byte ∷ next) some other = grind (arith, ne_eqb)
+zero_before-some code (byte ∷ next) some other = grind arith
 
 -- the kept output of a block and the bytes after it, and whether these are whole
 kept-joined : (code : ℕ) (bytes next : List ℕ) → IsBlock (code ∷ bytes) → kept_output ((code ∷ bytes) ++ next) ≡ bytes ++ (zero_before code next ++ kept_output next)
@@ -77,7 +77,7 @@ module _ {h old buffer : List ℕ} {written : ℕ} {left : List ℕ} (s : Writte
     kept-long = grind (arith, append-nil)
 
     all-written : (whole : Bool) → whole_left h ≡ whole → Decoded h old buffer (cond whole (Ok written) (Err (InvalidFrame written)))
-    all-written whole w = grind (arith, common_steps, take_all, kept-result, kept-long, append-nil, result-fits)
+    all-written whole w = grind (arith, take_all, kept-result, kept-long, append-nil, result-fits)
 
   -- the next byte
   module _ (byte : ℕ) (more : List ℕ) (next : left ≡ byte ∷ more) where
@@ -126,15 +126,15 @@ module _ {h old buffer p : List ℕ} {written : ℕ} (l : Left h old buffer writ
   -- bytes that begin with this code
   module _ (code : ℕ) (some : 0 < length p) (is : code ≡ get_or p 0 0) where
     front : p ≡ code ∷ drop 1 p
-    front = grind (arith, drop_more)
+    front = grind arith
 
     pub code-some : 0 < code
-    code-some = grind (arith, All-get_or, l.nonzero)
+    code-some = grind (arith, l.nonzero)
 
     -- they break off inside the block
     pub left-broken : length p < code → Decoded h old buffer (Err (InvalidFrame written))
     left-broken less =
-        let none : kept_output p ≡ [] = grind (arith, front, kept-broken, length-drop) in
+        let none : kept_output p ≡ [] = grind (arith, kept-broken, length-drop) in
         let broken : whole_left p ≡ false = grind (arith, front, broken-part, length-drop) in
         all-written l.written-is none false (l.whole ∙ broken)
 
@@ -144,10 +144,10 @@ module _ {h old buffer p : List ℕ} {written : ℕ} (l : Left h old buffer writ
       bytes = take (code - 1) (drop 1 p)
 
       block : IsBlock (code ∷ bytes)
-      block = (omega (arith, length-take-le (code - 1) (drop 1 p), length-drop 1 p, code-some), grind (arith, All-get_or, l.below), All-take (λ byte. byte ≢ 0) (code - 1) (drop 1 p) (All-drop (λ byte. byte ≢ 0) 1 p l.nonzero))
+      block = (omega (arith, length-take-le (code - 1) (drop 1 p), length-drop 1 p, code-some), grind (arith, l.below), All-take (λ byte. byte ≢ 0) (code - 1) (drop 1 p) (All-drop (λ byte. byte ≢ 0) 1 p l.nonzero))
 
       cut : p ≡ (code ∷ bytes) ++ drop code p
-      cut = grind (arith, code-some, front, take-append-drop, drop-drop)
+      cut = grind (arith, front, take-append-drop, drop-drop)
 
       pub left-block : BlockLeft h old buffer written bytes code (drop code p)
       left-block = record {
@@ -193,4 +193,4 @@ module _ {h old buffer bytes next : List ℕ} {written code : ℕ} (none : bytes
 
 -- in place there is always room
 pub decoded-in_place : (h old : List ℕ) {buffer : List ℕ} {result : Result ℕ DecodeError} → length h ≤ length old → Decoded h old buffer result → DecodedInPlace h old buffer result
-decoded-in_place h old fits d = grind (arith, result-fits, kept_within)
+decoded-in_place h old fits d = grind (arith, kept_within)

@@ -94,7 +94,7 @@ module _ {buffer₀ buffer buffer' : List ℕ} {phase₀ phase phase' : Phase} {
   }
     where
       nothing : reported_by (get_or bytes i 0) result buffer' ≡ []
-      nothing = grind (arith, cases_eq, eq-eqb, ne_eqb)
+      nothing = grind (arith, eq-eqb, ne_eqb)
 
   -- the byte ends a piece
   pub piece-ended : (end : PieceEnd) → get_or bytes i 0 ≡ 0 → end_reported result ≡ Some end → TakesPiece buffer₀ phase₀ bytes (Some (end, i + 1)) buffer' phase'

@@ -4,7 +4,7 @@ use Rattle.std.proofs.Common.{◌≡◌, ◌≢◌, ℕ, inl, inr, sym, length-t
 use Rattle.std.specs.List.{All}
 use Rattle.std.proofs.lemmas.List.{get_or-take, take-take}
 use Rattle.std.proofs.lemmas.List.Elements.{All-head, All-tail, All-drop, All-take, All-get_or}
-use Rattle.std.proofs.lemmas.Bool.{eq-eqb, le-leb, lt-leb, ne_eqb, cases_eq}
+use Rattle.std.proofs.lemmas.Bool.{eq-eqb, le-leb, ne_eqb, cases_eq}
 use Rattle.cobs.specs.Grammar.{HasNoZero}
 use Rattle.cobs.specs.Piece.{kept_output, last_part, missing, output}
 use Rattle.cobs.specs.Overwritten.{overwritten}
@@ -91,4 +91,4 @@ kept_stop h old new phase k run kept none before inside f over =
     let past = rw (← here) at over in
     let long = rw (head_alone front nonzero) at (over-long fed more other past) in
     let written = rw (head_alone front nonzero) at (over-written fed more other past) in
-    grind (arith, lt-leb)
+    grind arith

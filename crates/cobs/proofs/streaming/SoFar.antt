@@ -4,7 +4,7 @@ use Rattle.std.proofs.Common.{◌≡◌, ◌≢◌, ℕ, zero, suc, ◌+◌, ◌
 use Rattle.std.specs.List.{Contains}
 use Rattle.std.proofs.lemmas.List.{append-nil, nil_from_length, length-map, take_rest, take_all, take-append-drop}
 use Rattle.std.proofs.lemmas.List.Elements.{All-nil, All-cons, All-append, Contains-push_cases, Contains-append_cases}
-use Rattle.std.proofs.lemmas.Bool.{leb-true, cases_eq, eq-eqb, ne_eqb}
+use Rattle.std.proofs.lemmas.Bool.{leb-true, eq-eqb, ne_eqb}
 use Rattle.std.proofs.Math.Seq.{take-add}
 use Rattle.std.proofs.lemmas.Grind.{common_steps}
 use Rattle.cobs.specs.Grammar.{HasNoZero}
@@ -77,11 +77,11 @@ module _ {buffer buffer' : List ℕ} {phase phase' : Phase} {byte : ℕ} {result
   -- its result reports the outcome of the piece that it ends
   reported_byte : (p : List ℕ) → DecoderAfter buffer phase p → reported_by byte result buffer' ≡ outcomes_at p byte (length buffer)
   unfolding result_for result_at_end outcome_of
-  reported_byte p h = grind (arith, cases_eq, eq-eqb, ne_eqb, take_all, leb-true, outcomes_at-nonzero)
+  reported_byte p h = grind (arith, eq-eqb, ne_eqb, take_all, leb-true, outcomes_at-nonzero)
 
   alike_byte : (p : List ℕ) → PhaseAfter (length buffer) phase p → AreAlikeAtFirst (reported_by byte result buffer') (outcomes_at p byte (length buffer))
   unfolding result_for result_at_end outcome_of
-  alike_byte p h = grind (arith, cases_eq, eq-eqb, ne_eqb, length-take, leb-true, outcomes_at-nonzero)
+  alike_byte p h = grind (arith, eq-eqb, ne_eqb, length-take, leb-true, outcomes_at-nonzero)
 
   pub TakesBytes-byte : TakesBytes buffer phase (byte ∷ []) (reported_by byte result buffer') buffer' phase'
   TakesBytes-byte = grind (arith, unended-push_piece, reported_byte, stream_outcomes-push_piece, alike_byte, Contains-push_cases, DecoderAfter-idle)
@@ -158,4 +158,4 @@ module _ {buffer₀ buffer buffer' : List ℕ} {phase₀ phase phase' : Phase} {
         = ap (λ (x : List ℕ). stream_outcomes (p ++ x) n) (sym (take-append-drop (i + count) bytes)) ∙ outcomes_more p _ (drop (i + count) bytes) n in
         let nothing : stream_outcomes (p ++ _) n ≡ [] = left_nothing _ _ (sym whole ∙ none) in
         let nil : found ++ outcome_at end buffer' ∷ [] ≡ [] = alike-nil _ (rw nothing at (takes-piece.alike p h)) in
-        grind (arith, length-append)
+        grind arith

@@ -89,7 +89,7 @@ moved c =
     let i = c.by_block.invariant in
     elim c.if-read-next.branch [
       | goal.then-read-next+then-read-next-2 w ↦ (let s = w.by_byte.invariant in
-          let last = byte-moved _ _ c.requires.within _ _ s.left s.order s.inside (omega (arith, s.inside, c.if-end-read.false)) in
+          let last = byte-moved _ _ c.requires.within _ _ s.left s.order s.inside (omega (arith, c.if-end-read.false)) in
           grind arith)
       | goal.else-read-next w ↦ (let begun = block-begun _ _ c.requires.within _ i.left i.order c.by_block-test.true c.if-end-read.false in
           grind arith)

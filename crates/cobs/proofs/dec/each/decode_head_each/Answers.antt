@@ -1,8 +1,8 @@
 -- The bytes that are still to be decoded begin with the open block (`left-block`). Each of its bytes is written if there
 -- is room for it.
 use Rattle.std.proofs.Common.{◌≡◌, ◌∙◌, ◌-◌, ◌+◌, ◌<◌, ◌≤◌, ◌⊎◌, ◌∷◌, [], ℕ, List, Result, true, false, length, take, drop, get_or, sym, arith, inl, inr, Bool, eqb}
-use Rattle.std.proofs.lemmas.Bool.{eqb-true, eqb-false}
-use Rattle.std.proofs.lemmas.List.{drop_all, drop_more, drop-map, get_or-map, length-map, take-map}
+use Rattle.std.proofs.lemmas.Bool.{eqb-true}
+use Rattle.std.proofs.lemmas.List.{drop_all, drop_more, get_or-map, length-map, take-map}
 use Rattle.std.proofs.lemmas.List.Elements.{All-take}
 use Rattle.std.specs.Int.Bits.{bit_xor}
 use Rattle.cobs.specs.Decode.{result_of_sentinel_decode}
@@ -23,7 +23,7 @@ none-left : (rest : List ℕ) (empty : Bool) → empty ≡ eqb (length rest) 0 �
 none-left rest empty is e = eqb-true (length rest) 0 (sym is ∙ e)
 
 some-left : (rest : List ℕ) (empty : Bool) → empty ≡ eqb (length rest) 0 → empty ≡ false → 0 < length rest
-some-left rest empty is e = grind (arith, eqb-false, is)
+some-left rest empty is e = grind (arith, is)
 
 -- the next byte of a block, and the end of the block
 more-bytes : (s : ℕ) (items : List ℕ) (k : ℕ) → k < length items → xor_each s (drop k items) ≡ bit_xor (get_or items k 0) s ∷ xor_each s (drop (k + 1) items)
@@ -53,7 +53,7 @@ module _ (rest : List ℕ) (s : ℕ) where
   code-is some = grind (arith, get_or-map)
 
   items-are : xor_each s (take (code - 1) (drop 1 rest)) ≡ take (code - 1) (drop 1 (xor_each s rest))
-  items-are = grind (arith, drop-map, take-map)
+  items-are = grind (arith, take-map)
 
   -- the bytes after the first block
   next-is : xor_each s (take (length rest - code) (drop code rest)) ≡ drop code (xor_each s rest)
@@ -82,7 +82,7 @@ returns-then-rest-code c =
     (left-broken c.by_block.invariant _ (omega (arith, long rest s)) (code-is rest s some) (omega (arith, long rest s, c.if-rest-code.true)))
 
 pub slice_bounds-byte-items-count : goal.slice_bounds-byte-items-count
-slice_bounds-byte-items-count c = grind (arith, some-left, code-some, long, code-is)
+slice_bounds-byte-items-count c = grind (arith, code-some, long, code-is)
 
 pub slice_bounds-byte-items-start : goal.slice_bounds-byte-items-start
 slice_bounds-byte-items-start c = omega (arith, slice_bounds-byte-items-count c)

@@ -35,6 +35,6 @@ pub returns : goal.returns
 returns c =
     let is = c.ended.ensures in
     elim c.by_byte-test.branch [
-      | goal.else-by_byte-test w ↦ ended c.by_byte.invariant (λ more. absurd (omega (arith, w.by_byte-test.false))) (omega (arith, w.at-is, w.by_byte-test.false, c.by_byte.invariant.within)) is.whole is.broken
+      | goal.else-by_byte-test w ↦ ended c.by_byte.invariant (λ more. absurd (omega arith)) (omega (arith, w.at-is, w.by_byte-test.false, c.by_byte.invariant.within)) is.whole is.broken
       | goal.then-by_byte-test+then-byte-eq0 w ↦ ended c.by_byte.invariant (λ more. w.if-byte-eq0.true) (omega (arith, w.at-is, w.by_byte-test.true)) is.whole is.broken
     ]

@@ -75,7 +75,7 @@ returns-then-take_blocks-len c =
     let kept = c.kept_len-len.ensures.kept (h at) tail (sym (rest_xored _ _ tail)) (missed (h at) _ _ c.take_blocks.new.self tail c.requires fed) in
     let inside : tail + c.kept_len-len.result.0 ≤ length (h at) = omega (arith, long at, c.kept_len-len.ensures.within, length-take {A = ℕ}, length-drop {A = ℕ}) in
     let short = c.take_blocks-2.ensures.stop (omega (arith, inside, length-take {A = ℕ}, length-drop {A = ℕ}, long at)) in
-    kept_stop _ _ _ _ _ _ kept c.requires (omega arith) (omega (arith, inside)) (second both.After-take_blocks-2 fed) (grind (arith, slice_xored, get_or-take, get_or-drop))
+    kept_stop _ _ _ _ _ _ kept c.requires (omega arith) (omega arith) (second both.After-take_blocks-2 fed) (grind (arith, slice_xored, get_or-take, get_or-drop))
 
 pub returns : goal.returns
 returns c =

@@ -2,7 +2,6 @@
 -- (`in_place_report-decoded`, `in_place_report-rejected`). On each path through the function, the clauses follow from
 -- the report and the buffer (`in_place_clauses`).
 use Rattle.std.proofs.Common.{arith, rules, length-take-le}
-use Rattle.std.proofs.lemmas.Bool.{eqb-false}
 use Rattle.cobs.proofs.decoding.HeadLemmas.{front_is_head}
 use Rattle.cobs.proofs.decoding.HeadlineLemmas.{bytes_below, in_place_clauses}
 use Rattle.cobs.proofs.decoding.OutcomeSteps.{in_place_report-rejected, in_place_report-decoded}
@@ -10,11 +9,11 @@ use Rattle.cobs.proofs.dec.in_place.decode_in_place_report.Goals as goal
 
 pub returns-in_err-frame_size : goal.returns-in_err-frame_size
 returns-in_err-frame_size c =
-    in_place_clauses _ _ _ (grind (arith, eqb-false, front_is_head, in_place_report-rejected)) (grind (arith, front_is_head)) (bytes_below _ (search rules))
+    in_place_clauses _ _ _ (grind (arith, front_is_head, in_place_report-rejected)) (grind (arith, front_is_head)) (bytes_below _ (search rules))
 
 pub returns : goal.returns
 returns c =
-    in_place_clauses _ _ _ (grind (arith, eqb-false, front_is_head, in_place_report-decoded, length-take-le)) (grind (arith, front_is_head)) (bytes_below _ (search rules))
+    in_place_clauses _ _ _ (grind (arith, front_is_head, in_place_report-decoded, length-take-le)) (grind (arith, front_is_head)) (bytes_below _ (search rules))
 
 pub returns-in-Some : goal.returns-in-Some
 returns-in-Some c = in_place_clauses _ _ _ c.in-Some.ensures.returned c.in-Some.ensures.buffer (bytes_below _ (search rules))

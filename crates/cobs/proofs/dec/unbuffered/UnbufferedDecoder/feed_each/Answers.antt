@@ -54,7 +54,7 @@ returns-in-Some c =
 pub to_end-init : goal.to_end-init
 to_end-init c = elim c.if-here-eq0.branch [
   | goal.then-here-eq0+else-by_byte-test w ↦
-      rw (w.dest-is, w.here-is, w.taken-is) (record { none_ended = w.by_byte.invariant; overlong = λ more. absurd (omega (arith, more, w.by_byte-test.false)) })
+      rw (w.dest-is, w.here-is, w.taken-is) (record { none_ended = w.by_byte.invariant; overlong = λ more. absurd (omega (arith, w.by_byte-test.false)) })
   | goal.then-here-eq0+then-by_byte-test+then-byte-ne0+then-here-ne0 w ↦
       let e = w.take_byte.ensures in
       let nonzero = w.if-byte-ne0.true in

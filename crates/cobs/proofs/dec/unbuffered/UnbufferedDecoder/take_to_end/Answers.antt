@@ -1,7 +1,7 @@
 -- Each iteration takes a zero outside a piece, or a run (`ran`) and the byte after it that has no room (`piece-more`). The
 -- bytes of a piece that is too long are passed up to its zero (`passed`).
 use Rattle.std.proofs.Common.{◌≢◌, ◌+◌, ◌-◌, sym, subst, arith, None, Ok, refl, get_or, length, drop, take, length-drop, length-take}
-use Rattle.std.proofs.lemmas.List.{get_or-drop, take_all, take_rest}
+use Rattle.std.proofs.lemmas.List.{get_or-drop, take_rest}
 use Rattle.cobs.specs.Feed.{Feeds, Idle, Overlong}
 use Rattle.cobs.specs.FeedPiece.{TakesPiece}
 use Rattle.cobs.specs.Fields.Decoders.{phase_of}
@@ -24,13 +24,13 @@ overlong_open is = grind arith
 -- after the run
 ran : (c : After-take_run-taken)
     → TakesPiece c.args.dest.now (phase_of c.args.self.now) (take (c.by_run.taken + c.take_run-taken.result) c.args.bytes.now) None c.take_run-taken.new.dest (phase_of c.take_run-taken.new.self)
-ran c = piece-run c.args.bytes.now _ _ (grind (arith, length-drop, length-take)) c.by_run.invariant.none_ended (rw take_rest at c.take_run-taken.ensures.fed)
+ran c = piece-run c.args.bytes.now _ _ (grind (arith, length-take)) c.by_run.invariant.none_ended (rw take_rest at c.take_run-taken.ensures.fed)
 
 pub by_run-init : goal.by_run-init
 by_run-init c = record { within = omega arith; none_ended = piece-nothing _ _ }
 
 pub returns-then-self-ne0 : goal.returns-then-self-ne0
-returns-then-self-ne0 c = grind (arith, length-take, take_rest, over_is, length-drop, passed, get_or-drop, overlong_open)
+returns-then-self-ne0 c = grind (arith, take_rest, over_is, length-drop, passed, get_or-drop, overlong_open)
 
 pub returns-then-not-is_idle : goal.returns-then-not-is_idle
 returns-then-not-is_idle c = record {
@@ -56,7 +56,7 @@ by_run-preserved-then-bytes-taken-ne0 c = record {
 }
 
 pub by_run-preserved : goal.by_run-preserved
-by_run-preserved c = record { within = grind (arith, length-drop, length-take); none_ended = ran (goal.at.by_run-preserved c).After-take_run-taken }
+by_run-preserved c = record { within = grind (arith, length-take); none_ended = ran (goal.at.by_run-preserved c).After-take_run-taken }
 
 pub returns : goal.returns
-returns c = grind (arith, take_all)
+returns c = grind arith
