@@ -165,7 +165,8 @@ module _ {h old buffer bytes next : List ℕ} {written code : ℕ} (b : BlockLef
   block-long = written-long b.written-is
 
 -- the next byte of a block
-module _ {h old buffer bytes next : List ℕ} {written code byte : ℕ} (more : List ℕ) (is : bytes ≡ byte ∷ more) (b : BlockLeft h old buffer written bytes code next) where
+module _ {h old buffer bytes next : List ℕ} {written code byte : ℕ} (more : List ℕ) (is : bytes ≡ byte ∷ more)
+    (b : BlockLeft h old buffer written bytes code next) where
   joined : bytes ++ (zero_before code next ++ kept_output next) ≡ byte ∷ (more ++ (zero_before code next ++ kept_output next))
   joined = rw is refl
 

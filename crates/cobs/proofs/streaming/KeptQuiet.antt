@@ -33,7 +33,8 @@ few_missing =
     (λ code bytes more rest small. rw (last_part-more code bytes more) (rest (All-drop (λ b. b < 256) (code - 1) bytes (All-tail (λ b. b < 256) code bytes small))))
 
 -- the first bytes of h are fed
-module _ (h old new : List ℕ) (inner : UnbufferedDecoder) (tail : ℕ) (nonzero : HasNoZero h) (fed : FeedsQuietly old Idle (take tail h) new (phase_of inner)) where
+module _ (h old new : List ℕ) (inner : UnbufferedDecoder) (tail : ℕ) (nonzero : HasNoZero h)
+    (fed : FeedsQuietly old Idle (take tail h) new (phase_of inner)) where
   -- the missing bytes of the open block
   pub missed : missing (last_part (take tail h)) ≡ inner.missing
   missed =
@@ -57,7 +58,8 @@ whole_front h old front n whole is fits count = grind (arith, whole-kept, take_a
 
 -- the first k bytes of h are fed, and their output is the kept output of h
 module _ (h old new : List ℕ) (inner : UnbufferedDecoder) (k : ℕ) (whole : Bool) (result : Result ℕ DecodeError) (nonzero : HasNoZero h)
-    (fed : FeedsQuietly old Idle (take k h) new (phase_of inner)) (kept : output (take k h) ≡ kept_output h) (is : IsTrue whole ↔ (missing (last_part h) ≡ 0))
+    (fed : FeedsQuietly old Idle (take k h) new (phase_of inner)) (kept : output (take k h) ≡ kept_output h)
+    (is : IsTrue whole ↔ (missing (last_part h) ≡ 0))
     (ok : IsTrue whole → result ≡ Ok inner.written) (broken : whole ≡ false → result ≡ Err (InvalidFrame inner.written)) where
   run : Quiet old new (phase_of inner) (take k h)
   run = quiet (take k h) old new (phase_of inner) (All-take (λ b. b ≢ 0) k h nonzero) fed

@@ -108,7 +108,8 @@ module _ {buffer₀ buffer buffer' : List ℕ} {phase₀ phase phase' : Phase} {
   reported_more s t p w = grind arith
 
   -- bytes taken after those so far
-  pub takes-more : TakesBytes buffer₀ phase₀ done found buffer phase → TakesBytes buffer phase more stated buffer' phase' → TakesBytes buffer₀ phase₀ (done ++ more) (found ++ stated) buffer' phase'
+  pub takes-more : TakesBytes buffer₀ phase₀ done found buffer phase → TakesBytes buffer phase more stated buffer' phase'
+      → TakesBytes buffer₀ phase₀ (done ++ more) (found ++ stated) buffer' phase'
   takes-more s t = record {
     len = t.len ∙ s.len;
     feeds = FeedsEach-append done more buffer₀ buffer buffer' phase₀ phase phase' s.feeds t.feeds;

@@ -106,13 +106,15 @@ pub returns-then-dest-written-2 : goal.returns-then-dest-written-2
 returns-then-dest-written-2 c =
     let more = some-left _ _ c.is_empty-then-code-ne-FULL_CODE.ensures c.if-not-is_empty.true in
     answered _ _ _ _ _ (some-left _ _ c.is_empty.ensures c.if-is_empty.false)
-    (zero-full (bytes-ended _ _ _ c.by_byte-test.false) c.by_byte.invariant (omega (arith, more, next-long c.by_block.rest.now c.args.sentinel)) c.if-code-ne-FULL_CODE.true c.if-dest-written-2.true)
+    (zero-full (bytes-ended _ _ _ c.by_byte-test.false) c.by_byte.invariant (omega (arith, more, next-long c.by_block.rest.now c.args.sentinel))
+    c.if-code-ne-FULL_CODE.true c.if-dest-written-2.true)
 
 pub by_block-preserved-then-not-is_empty : goal.by_block-preserved-then-not-is_empty
 by_block-preserved-then-not-is_empty c =
     let more = some-left _ _ c.is_empty-then-code-ne-FULL_CODE.ensures c.if-not-is_empty.true in
     rw (next-is c.by_block.rest.now c.args.sentinel)
-    (block-zero (bytes-ended _ _ _ c.by_byte-test.false) c.by_byte.invariant (omega (arith, more, next-long c.by_block.rest.now c.args.sentinel)) c.if-code-ne-FULL_CODE.true c.if-dest-written-2.false)
+    (block-zero (bytes-ended _ _ _ c.by_byte-test.false) c.by_byte.invariant (omega (arith, more, next-long c.by_block.rest.now c.args.sentinel))
+    c.if-code-ne-FULL_CODE.true c.if-dest-written-2.false)
 
 pub by_block-preserved : goal.by_block-preserved
 by_block-preserved c =

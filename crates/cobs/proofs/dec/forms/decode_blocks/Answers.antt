@@ -62,8 +62,10 @@ returns-then-take_blocks-tail c =
     kept_stop _ _ _ _ cut.0 _ cut.1.1 c.requires (omega (arith, cut.1.0, long at)) (omega (arith, long at)) (first at) (rw here at stop)
 
 -- the second call feeds the first bytes that are still to be decoded
-module _ (c : After-take_blocks-2) (fed : FeedsQuietly c.args.dest.now Idle (take c.saturating_sub-tail.result (xor_each c.args.sentinel c.args.source.now)) c.take_blocks.new.dest (phase_of c.take_blocks.new.self)) where
-  second : FeedsQuietly c.args.dest.now Idle (take (c.saturating_sub-tail.result + c.take_blocks-2.result) (xor_each c.args.sentinel c.args.source.now)) c.take_blocks-2.new.dest (phase_of c.take_blocks-2.new.self)
+module _ (c : After-take_blocks-2) (fed : FeedsQuietly c.args.dest.now Idle (take c.saturating_sub-tail.result (xor_each c.args.sentinel c.args.source.now))
+    c.take_blocks.new.dest (phase_of c.take_blocks.new.self)) where
+  second : FeedsQuietly c.args.dest.now Idle (take (c.saturating_sub-tail.result + c.take_blocks-2.result) (xor_each c.args.sentinel c.args.source.now))
+      c.take_blocks-2.new.dest (phase_of c.take_blocks-2.new.self)
   second = grind (arith, FeedsQuietly-more, slice_xored, take-take, length-take, length-drop)
 
 pub returns-then-take_blocks-len : goal.returns-then-take_blocks-len
@@ -75,7 +77,8 @@ returns-then-take_blocks-len c =
     let kept = c.kept_len-len.ensures.kept (h at) tail (sym (rest_xored _ _ tail)) (missed (h at) _ _ c.take_blocks.new.self tail c.requires fed) in
     let inside : tail + c.kept_len-len.result.0 ≤ length (h at) = omega (arith, long at, c.kept_len-len.ensures.within, length-take {A = ℕ}, length-drop {A = ℕ}) in
     let short = c.take_blocks-2.ensures.stop (omega (arith, inside, length-take {A = ℕ}, length-drop {A = ℕ}, long at)) in
-    kept_stop _ _ _ _ _ _ kept c.requires (omega arith) (omega arith) (second both.After-take_blocks-2 fed) (grind (arith, slice_xored, get_or-take, get_or-drop))
+    kept_stop _ _ _ _ _ _ kept c.requires (omega arith) (omega arith) (second both.After-take_blocks-2 fed)
+    (grind (arith, slice_xored, get_or-take, get_or-drop))
 
 pub returns : goal.returns
 returns c =
@@ -86,4 +89,5 @@ returns c =
     let kept = c.kept_len-len.ensures.kept (h at) tail (sym (rest_xored _ _ tail)) (missed (h at) _ _ c.take_blocks.new.self tail c.requires fed) in
     let whole = c.kept_len-len.ensures.whole (h at) tail (sym (rest_xored _ _ tail)) (missed (h at) _ _ c.take_blocks.new.self tail c.requires fed) in
     let same : c.take_blocks-2.result ≡ c.kept_len-len.result.0 = omega arith in
-    kept_fits _ _ _ c.take_blocks-2.new.self _ _ _ c.requires (rw same at (second both.After-take_blocks-2 fed)) kept whole c.message_len.ensures.whole c.message_len.ensures.broken
+    kept_fits _ _ _ c.take_blocks-2.new.self _ _ _ c.requires (rw same at (second both.After-take_blocks-2 fed)) kept whole
+    c.message_len.ensures.whole c.message_len.ensures.broken

@@ -61,7 +61,9 @@ kept_len-len-requires-clause-left c =
     omega (arith, most, bytes-long at, long at)
 
 pub kept_len-len-requires-clause-nonzero : goal.kept_len-len-requires-clause-nonzero
-kept_len-len-requires-clause-nonzero c = let at = (goal.at.kept_len-len-requires-clause-nonzero c).After-take_in_place in rw (← last at) (All-drop (λ b. b ≢ 0) (tail at) (h at) c.requires.nonzero)
+kept_len-len-requires-clause-nonzero c =
+    let at = (goal.at.kept_len-len-requires-clause-nonzero c).After-take_in_place in
+    rw (← last at) (All-drop (λ b. b ≢ 0) (tail at) (h at) c.requires.nonzero)
 
 pub take_in_place-requires-2-clause-nonzero : goal.take_in_place-requires-2-clause-nonzero
 take_in_place-requires-2-clause-nonzero c =
@@ -77,4 +79,5 @@ returns c =
     let missing = missed (h at) _ _ c.take_in_place.new.self (tail at) c.requires.nonzero (fed at) in
     let next : FeedsQuietly (new at) (phase_of c.take_in_place.new.self) (take n (drop (tail at) (h at))) c.take_in_place-2.new.buffer (phase_of c.take_in_place-2.new.self)
     = grind (arith, last, rest, take-take, xor_each-zero) in
-    kept_fed _ _ _ c.take_in_place-2.new.self _ _ _ c.requires.nonzero (FeedsQuietly-more (h at) _ _ _ _ _ _ (tail at) n (fed at) next) (e.kept _ _ (last at) missing) (e.whole _ _ (last at) missing) c.message_len.ensures.whole c.message_len.ensures.broken
+    kept_fed _ _ _ c.take_in_place-2.new.self _ _ _ c.requires.nonzero (FeedsQuietly-more (h at) _ _ _ _ _ _ (tail at) n (fed at) next)
+    (e.kept _ _ (last at) missing) (e.whole _ _ (last at) missing) c.message_len.ensures.whole c.message_len.ensures.broken
