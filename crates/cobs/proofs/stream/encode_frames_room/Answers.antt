@@ -1,4 +1,4 @@
--- A sum that doesn't fit is less than the room for all messages (`room-step`, `room-some`).
+-- A sum that doesn't fit is less than the room for all messages (`room-some`).
 use Rattle.std.proofs.Common.{arith}
 use Rattle.std.proofs.lemmas.Grind.{common_steps}
 use Rattle.cobs.proofs.format.MessagesLemmas.{room-some}
