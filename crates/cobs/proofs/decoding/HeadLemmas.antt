@@ -1,7 +1,7 @@
 -- The bytes of a list before its first zero, by std's lemmas on the first place that passes a test (`head-is`), and the first
 -- piece after its leading zeros: by `first_piece_head` for a list that begins with a code.
 use Rattle.std.proofs.Common.{◌≡◌, ◌≢◌, ℕ, zero, suc, ◌+◌, ◌-◌, ◌<◌, ◌≤◌, List, [], ◌∷◌, ◌++◌, length, take, drop, get_or, Some, None, refl, sym, ap, ◌∙◌, ◌==◌, false, arith, inl, inr, length-drop, length-take}
-use Rattle.std.proofs.lemmas.Bool.{cases_lt, ne_eqb, eq-eqb, eqb-true, eqb-false}
+use Rattle.std.proofs.lemmas.Bool.{cases_lt, ne_eqb, eq-eqb, eqb-true}
 use Rattle.std.proofs.lemmas.List.{drop_more, get_or-take, get_or-drop, take-append-drop}
 use Rattle.std.proofs.lemmas.List.Sums.{fails_before_first, passes_at_first, position_or_len_is, prefix_len_stops}
 use Rattle.std.specs.List.{position_or_len}
@@ -52,11 +52,11 @@ pub first_piece_behind : (t : List ℕ) → first_piece t ≡ first_piece (drop 
 unfolding first_piece
 first_piece_behind [] = refl
 first_piece_behind (zero ∷ t) = grind (arith, first_piece_behind t)
-first_piece_behind (suc b ∷ t) = grind (arith, ne_eqb)
+first_piece_behind (suc b ∷ t) = grind arith
 
 -- and no zero is after them
 pub leading_zeros-stop : (t : List ℕ) → leading_zeros t < length t → get_or (drop (leading_zeros t) t) 0 0 ≢ 0
-leading_zeros-stop t some = rw get_or-drop (let stop = prefix_len_stops (λ b. b == 0) t 0 some in grind (arith, eqb-false))
+leading_zeros-stop t some = rw get_or-drop (let stop = prefix_len_stops (λ b. b == 0) t 0 some in grind arith)
 
 -- no piece is in an empty list
 pub first_piece_empty : (t : List ℕ) → length t ≡ 0 → first_piece t ≡ None

@@ -1,6 +1,7 @@
 -- The decoders of a whole list report the outcome of the list's first piece (`Reported`), so they return the message m exactly
 -- if the list reads as m (`outcome_message`).
 use Rattle.std.proofs.Common.{◌≡◌, ◌≢◌, ℕ, ◌<◌, ◌≤◌, ◌↔◌, ◌⊎◌, inl, inr, false, List, [], ◌∷◌, length, take, All, Result, Ok, Err, refl, sym, ap, ◌∙◌, arith, get_or, Fits, w8}
+use Rattle.std.specs.Prelude.{IfErr}
 use Rattle.std.proofs.lemmas.Bool.{cases_Bool, cases_lt}
 use Rattle.std.proofs.lemmas.List.Elements.{All-from_get_or, All-map, All-weaker}
 use Rattle.std.specs.Int.Bits.{bit_xor, xor_lt}
@@ -17,9 +18,8 @@ use Rattle.cobs.specs.declared.error.DecodeError.TheVariants.{InvalidFrame, Targ
 use Rattle.cobs.proofs.format.FrameLemmas.{frame_output}
 use Rattle.cobs.proofs.decoding.KeptLemmas.{all-kept}
 use Rattle.cobs.proofs.decoding.OutcomeLemmas.{first_piece_alone, head_alone, length-head, outcome_message, outcome_says, output_within}
-use Rattle.cobs.proofs.decoding.OutcomeSteps.{result_by_piece}
 use Rattle.cobs.proofs.decoding.ReadsLemmas.{frame_piece}
-use Rattle.cobs.proofs.decoding.SourceSteps.{result-fits, result-too_long}
+use Rattle.cobs.proofs.decoding.SourceSteps.{result-fits}
 use Rattle.cobs.proofs.decoding.VectorSteps.{kept_within, overwritten-begins}
 
 -- the elements of a slice of bytes are below 256
@@ -59,7 +59,7 @@ reports parsed result buffer m P h = grind arith
 
 result_of_decode_alone : (f : List ℕ) (n : ℕ) → IsPiece f → result_of_decode f n ≡ report_result (len_through_piece f f) (outcome_result (outcome_of f n))
 result_of_decode_alone [] n piece = grind arith
-result_of_decode_alone (byte ∷ bytes) n piece = grind (arith, result_by_piece, first_piece_alone)
+result_of_decode_alone (byte ∷ bytes) n piece = grind (arith, first_piece_alone)
 
 -- `decode` reports the outcome of a piece
 decode-reported : (f buffer buffer' : List ℕ) (outcome : Outcome) → outcome_of f (length buffer) ≡ outcome → buffer' ≡ overwritten buffer (output f)
@@ -70,20 +70,28 @@ decode-reported f buffer buffer' (Message m) e is =
 decode-reported f buffer buffer' (Broken count) e is = (InvalidFrame count, refl)
 decode-reported f buffer buffer' TooLong e is = (TargetBufTooSmall, refl)
 
-module _ (f buffer : List ℕ) (result : Result DecodeReport DecodeError) (buffer' : List ℕ) (returned : result ≡ result_of_decode f (length buffer)) (after : buffer' ≡ overwritten buffer (first_output f))
-    (below : All (λ b. b < 256) f) where
-  decode_reported : IsPiece f → (m : List ℕ) → ReportsMessage result buffer' m ↔ (Reads f m × (length m ≤ length buffer))
+-- the clauses of `decode` follow from its result and its buffer
+module _ (f old : List ℕ) (result : Result DecodeReport DecodeError) (new : List ℕ) (returned : result ≡ result_of_decode f (length old))
+    (after : new ≡ overwritten old (first_output f)) (below : All (λ b. b < 256) f) where
+  decode_reported : IsPiece f → (m : List ℕ) → ReportsMessage result new m ↔ (Reads f m × (length m ≤ length old))
   decode_reported piece m =
-      let written : buffer' ≡ overwritten buffer (output f) = rw (first_piece_alone f piece.0 piece.1) at after in
-      rw (returned, result_of_decode_alone f (length buffer) piece)
-      (reports (len_through_piece f f) (outcome_result (outcome_of f _)) buffer' m _
-      (returns-reads f m _ (outcome_result (outcome_of f _)) buffer' piece below (decode-reported f buffer buffer' _ refl written)))
+      let written : new ≡ overwritten old (output f) = rw (first_piece_alone f piece.0 piece.1) at after in
+      rw (returned, result_of_decode_alone f (length old) piece)
+      (reports (len_through_piece f f) (outcome_result (outcome_of f _)) new m _
+      (returns-reads f m _ (outcome_result (outcome_of f _)) new piece below (decode-reported f old new _ refl written)))
 
-  pub decode_reads : (m : List ℕ) → Reads f m → length m ≤ length buffer → ReportsMessage result buffer' m
-  decode_reads m r fits = (decode_reported (frame_piece r) m).1 (r, fits)
-
-  pub decode_only : IsPiece f → (m : List ℕ) → ReportsMessage result buffer' m → Reads f m × (length m ≤ length buffer)
-  decode_only piece m = (decode_reported piece m).0
+  pub decode_clauses : record {
+    answer : result ≡ result_of_decode f (length old);
+    buffer : new ≡ overwritten old (first_output f);
+    reads : (m : List ℕ) → Reads f m → length m ≤ length old → ReportsMessage result new m;
+    only : IsPiece f → (m : List ℕ) → ReportsMessage result new m → Reads f m × (length m ≤ length old);
+  }
+  decode_clauses = record {
+    answer = returned;
+    buffer = after;
+    reads = λ m r fits. (decode_reported (frame_piece r) m).1 (r, fits);
+    only = λ piece m. (decode_reported piece m).0;
+  }
 
 -- DECODING FROM A SOURCE FOR ANY SENTINEL
 
@@ -94,7 +102,7 @@ result_of_sentinel_decode_alone (byte ∷ bytes) n piece = grind (arith, head_al
 -- a piece that is broken or too long is rejected
 within-rejected : (f : List ℕ) (n : ℕ) → f ≢ [] → (is_whole f ≡ false) ⊎ (n < length (output f)) → (error : DecodeError) × (head_result_within f n ≡ Err error)
 within-rejected f n some either = elim (cases_lt n (length (kept_output f))) [
-  | inl more ↦ (TargetBufTooSmall, grind (arith, result-too_long))
+  | inl more ↦ (TargetBufTooSmall, grind arith)
   | inr fits ↦ (InvalidFrame (length (kept_output f)), grind (arith, all-kept, cases_Bool, result-fits))
 ]
 
@@ -108,34 +116,57 @@ source-reported f buffer buffer' (Message m) e some is =
 source-reported f buffer buffer' (Broken count) e some is = within-rejected f (length buffer) some (inl (outcome_says f (length buffer) e).1)
 source-reported f buffer buffer' TooLong e some is = within-rejected f (length buffer) some (inr (outcome_says f (length buffer) e))
 
-module _ (f buffer : List ℕ) (result : Result ℕ DecodeError) (buffer' : List ℕ) (returned : result ≡ result_of_sentinel_decode f (length buffer)) (after : buffer' ≡ overwritten buffer (kept_output (head f)))
-    (below : All (λ b. b < 256) f) where
-  source_reported : IsPiece f → (m : List ℕ) → ReturnsMessage result buffer' m ↔ (Reads f m × (length m ≤ length buffer))
+-- the clauses of `decode_with_sentinel` follow from its result and its buffer
+module _ (f old : List ℕ) (result : Result ℕ DecodeError) (new : List ℕ) (returned : result ≡ result_of_sentinel_decode f (length old))
+    (after : new ≡ overwritten old (kept_output (head f))) (below : All (λ b. b < 256) f) where
+  source_reported : IsPiece f → (m : List ℕ) → ReturnsMessage result new m ↔ (Reads f m × (length m ≤ length old))
   source_reported piece m =
-      let written : buffer' ≡ overwritten buffer (kept_output f) = rw (head_alone f piece.1) at after in
-      rw (returned, result_of_sentinel_decode_alone f (length buffer) piece)
-      (returns-reads f m _ _ buffer' piece below (source-reported f buffer buffer' _ refl piece.0 written))
+      let written : new ≡ overwritten old (kept_output f) = rw (head_alone f piece.1) at after in
+      rw (returned, result_of_sentinel_decode_alone f (length old) piece)
+      (returns-reads f m _ _ new piece below (source-reported f old new _ refl piece.0 written))
 
-  pub source_reads : (m : List ℕ) → Reads f m → length m ≤ length buffer → ReturnsMessage result buffer' m
-  source_reads m r fits = (source_reported (frame_piece r) m).1 (r, fits)
-
-  pub source_only : IsPiece f → (m : List ℕ) → ReturnsMessage result buffer' m → Reads f m × (length m ≤ length buffer)
-  source_only piece m = (source_reported piece m).0
+  pub source_clauses : record {
+    answer : result ≡ result_of_sentinel_decode f (length old);
+    buffer : new ≡ overwritten old (kept_output (head f));
+    reads : (m : List ℕ) → Reads f m → length m ≤ length old → ReturnsMessage result new m;
+    only : IsPiece f → (m : List ℕ) → ReturnsMessage result new m → Reads f m × (length m ≤ length old);
+  }
+  source_clauses = record {
+    answer = returned;
+    buffer = after;
+    reads = λ m r fits. (source_reported (frame_piece r) m).1 (r, fits);
+    only = λ piece m. (source_reported piece m).0;
+  }
 
 -- DECODING IN PLACE, WHERE THE BUFFER IS THE SOURCE
 
 in_place-source : (f : List ℕ) → result_in_place f ≡ result_of_sentinel_decode f (length f)
 in_place-source [] = refl
-in_place-source (byte ∷ bytes) = grind (arith, result-fits, kept_within, length-head)
+in_place-source (byte ∷ bytes) = grind (arith, kept_within, length-head)
 
-module _ (f : List ℕ) (result : Result DecodeReport DecodeError) (buffer' : List ℕ) (returned : result ≡ in_place_report f) (after : buffer' ≡ in_place f) (below : All (λ b. b < 256) f) where
-  in_place_reported : IsPiece f → (m : List ℕ) → ReportsMessage result buffer' m ↔ (Reads f m × (length m ≤ length f))
+in_place-room : (f : List ℕ) (result : Result DecodeReport DecodeError) → result ≡ in_place_report f → IfErr result (λ error. error ≢ TargetBufTooSmall)
+in_place-room [] result is = grind arith
+in_place-room (byte ∷ bytes) result is = grind arith
+
+-- the clauses of `decode_in_place_report` follow from its report and its buffer
+module _ (f : List ℕ) (result : Result DecodeReport DecodeError) (new : List ℕ) (returned : result ≡ in_place_report f) (after : new ≡ in_place f)
+    (below : All (λ b. b < 256) f) where
+  in_place_reported : IsPiece f → (m : List ℕ) → ReportsMessage result new m ↔ (Reads f m × (length m ≤ length f))
   in_place_reported piece m =
       rw returned
-      (reports (length (head f)) (result_in_place f) buffer' m _ (source_reported f f (result_in_place f) buffer' (in_place-source f) after below piece m))
+      (reports (length (head f)) (result_in_place f) new m _ (source_reported f f (result_in_place f) new (in_place-source f) after below piece m))
 
-  pub in_place_reads : (m : List ℕ) → Reads f m → ReportsMessage result buffer' m
-  in_place_reads m r = grind (arith, in_place_reported, frame_piece, frame_output, output_within)
-
-  pub in_place_only : IsPiece f → (m : List ℕ) → ReportsMessage result buffer' m → Reads f m
-  in_place_only piece m stated = grind (arith, in_place_reported)
+  pub in_place_clauses : record {
+    answer : result ≡ in_place_report f;
+    buffer : new ≡ in_place f;
+    reads : (m : List ℕ) → Reads f m → ReportsMessage result new m;
+    only : IsPiece f → (m : List ℕ) → ReportsMessage result new m → Reads f m;
+    room : IfErr result (λ error. error ≢ TargetBufTooSmall);
+  }
+  in_place_clauses = record {
+    answer = returned;
+    buffer = after;
+    reads = λ m r. grind (arith, in_place_reported, frame_piece, frame_output, output_within);
+    only = λ piece m stated. ((in_place_reported piece m).0 stated).0;
+    room = in_place-room f result returned;
+  }

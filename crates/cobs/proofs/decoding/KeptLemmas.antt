@@ -2,7 +2,7 @@
 -- whole. They cut the piece after its first part (`PieceCuts`).
 use Rattle.std.proofs.Common.{◌≡◌, ◌≢◌, ℕ, ◌+◌, ◌-◌, ◌<◌, ◌≤◌, Bool, false, cond, List, [], ◌∷◌, ◌++◌, length, take, refl, arith, append_assoc, length-append, take_all, take_at, drop_at, eqb, Ok, Err, Result}
 use Rattle.std.proofs.Math.Seq.{take-append-add}
-use Rattle.std.proofs.lemmas.Bool.{ne_eqb, eq-eqb, cases_Bool}
+use Rattle.std.proofs.lemmas.Bool.{ne_eqb, eq-eqb}
 use Rattle.cobs.specs.Grammar.{bytes_of, joint, message_of, last_of, IsBlock}
 use Rattle.cobs.specs.Piece.{parts, output, last_part, is_whole, kept_output, IsWhole, missing, parts_after}
 use Rattle.cobs.specs.Decode.{head_result, head_result_within}
@@ -17,7 +17,7 @@ kept-is p = refl
 
 pub kept_output-empty : kept_output [] ≡ []
 unfolding kept_output
-kept_output-empty = grind (arith, kept-is, output-empty, take_all)
+kept_output-empty = grind (arith, output-empty, take_all)
 
 pub all-kept : (p : List ℕ) → IsWhole p → kept_output p ≡ output p
 all-kept p whole = rw (kept-is p, whole) refl
@@ -74,7 +74,7 @@ front-whole (code ∷ bytes) (x ∷ p) is some = whole-same code bytes x p is
 cut-behind : (whole : Bool) (front out : List ℕ) (k : ℕ) → k ≤ length out → cond whole (front ++ out) (take (length (front ++ out) - k) (front ++ out)) ≡ front ++ cond whole out (take (length out - k) out)
 cut-behind whole front out k fits =
     let same : length (front ++ out) - k ≡ length front + (length out - k) = omega (arith, length-append front out) in
-    grind (arith, cases_Bool, take-append-add)
+    grind (arith, take-append-add)
 
 pub front-kept : (block p : List ℕ) → IsBlock block → p ≢ [] → kept_output (block ++ p) ≡ bytes_of block ++ joint block ++ kept_output p
 front-kept [] p is some = absurd is

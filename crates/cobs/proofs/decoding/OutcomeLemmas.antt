@@ -1,13 +1,13 @@
 -- The outcome of a piece follows from its output's length and from whether it is whole (`outcome_of_whole` and the lemmas after
 -- it), and says as much of the piece (`outcome_says`): so it is `Message m` exactly if the piece is a frame of m that fits
 -- (`outcome_message`). The first piece of a stream is the bytes before its first zero: std's `take_while`.
-use Rattle.std.proofs.Common.{◌≡◌, ◌≢◌, ℕ, ◌<◌, ◌≤◌, ◌↔◌, List, [], ◌∷◌, ◌++◌, length, filter, All, Some, refl, ap, ◌∙◌, arith, length-append, length-drop, length-take, false, not, ◌==◌, inl, inr}
+use Rattle.std.proofs.Common.{◌≡◌, ◌≢◌, ℕ, ◌<◌, ◌≤◌, ◌↔◌, List, [], ◌∷◌, ◌++◌, length, All, Some, refl, ap, ◌∙◌, arith, length-append, length-drop, length-take, false, not, ◌==◌, inl, inr}
 use Rattle.std.specs.List.{position_or_len, take_while}
-use Rattle.std.proofs.lemmas.Bool.{cases_Bool, cases_eq, ne_eqb, le-leb, eq-eqb, lt-leb, leb-true, leb-false}
+use Rattle.std.proofs.lemmas.Bool.{cases_eq, ne_eqb, eq-eqb, leb-true, leb-false}
 use Rattle.std.proofs.lemmas.List.Elements.{All-cons, All-nil, All-weaker, All-take}
 use Rattle.std.proofs.lemmas.List.Folds.{length-prefix_len}
 use Rattle.std.proofs.lemmas.List.Sums.{take_while-cons}
-use Rattle.std.proofs.lemmas.List.Splits.{slice_split-cons_no, slice_split_none}
+use Rattle.std.proofs.lemmas.List.Splits.{slice_split_none}
 use Rattle.cobs.specs.Grammar.{HasNoZero, Reads}
 use Rattle.cobs.specs.Headline.{IsPiece}
 use Rattle.cobs.specs.Piece.{IsWhole, output, is_whole, last_part, missing}
@@ -45,18 +45,18 @@ Says TooLong p n = n < length (output p)
 -- each outcome says so of its piece
 says : (p : List ℕ) (n : ℕ) → Says (outcome_of p n) p n
 unfolding outcome_of
-says p n = grind (arith, cases_Bool, leb-true, leb-false)
+says p n = grind (arith, leb-true, leb-false)
 
 pub outcome_says : (p : List ℕ) (n : ℕ) {outcome : Outcome} → outcome_of p n ≡ outcome → Says outcome p n
 outcome_says p n e = rw e at (says p n)
 
 pub outcome_of_whole : (p : List ℕ) (n : ℕ) → length (output p) ≤ n → IsWhole p → outcome_of p n ≡ Message (output p)
 unfolding outcome_of
-outcome_of_whole p n fits whole = grind (arith, le-leb)
+outcome_of_whole p n fits whole = grind arith
 
 pub outcome_of_long : (p : List ℕ) (n : ℕ) → n < length (output p) → outcome_of p n ≡ TooLong
 unfolding outcome_of
-outcome_of_long p n long = grind (arith, lt-leb)
+outcome_of_long p n long = grind arith
 
 -- the same by the missing bytes of the last part
 pub outcome_of_none_missing : (p : List ℕ) (n : ℕ) → 0 < length p → length (output p) ≤ n → missing (last_part p) ≡ 0 → outcome_of p n ≡ Message (output p)
@@ -64,7 +64,7 @@ outcome_of_none_missing p n some fits whole = grind (arith, outcome_of_whole, is
 
 pub outcome_of_some_missing : (p : List ℕ) (n : ℕ) → 0 < length p → length (output p) ≤ n → missing (last_part p) ≢ 0 → outcome_of p n ≡ Broken (length (output p))
 unfolding outcome_of
-outcome_of_some_missing p n some fits broken = grind (arith, le-leb, is_whole-of, ne_eqb)
+outcome_of_some_missing p n some fits broken = grind (arith, is_whole-of, ne_eqb)
 
 -- the outcome of a frame is its message, in each buffer that holds it
 pub outcome_frame : (f m : List ℕ) (n : ℕ) → Reads f m → length m ≤ n → outcome_of f n ≡ Message m
@@ -91,7 +91,7 @@ unfolding head
 head-append p t h = grind (arith, stretches-front, some_stretch)
 
 pub head-cons : (byte : ℕ) (bytes : List ℕ) → byte ≢ 0 → head (byte ∷ bytes) ≡ byte ∷ head bytes
-head-cons byte bytes some = head-append (byte ∷ []) bytes (grind (arith, All-cons, All-nil))
+head-cons byte bytes some = head-append (byte ∷ []) bytes (grind (arith, All-nil))
 
 -- in std's words
 pub head-is : (t : List ℕ) → head t ≡ take_while (λ b. not (b == 0)) t
@@ -118,7 +118,7 @@ length-head t = rw (head-is t) (omega (arith, length-take {A = ℕ}))
 
 pub first_piece_head : (byte : ℕ) (bytes : List ℕ) → byte ≢ 0 → first_piece (byte ∷ bytes) ≡ Some (head (byte ∷ bytes))
 unfolding first_piece head
-first_piece_head byte bytes some = grind (arith, slice_split-cons_no, ne_eqb, head-cons)
+first_piece_head byte bytes some = grind (arith, ne_eqb, head-cons)
 
 -- in a buffer of the stream's length
 pub head_reads : (byte : ℕ) (bytes m : List ℕ) → byte ≢ 0 → All (λ b. b < 256) (byte ∷ bytes) → (outcome_of (head (byte ∷ bytes)) (length (byte ∷ bytes)) ≡ Message m) ↔ Reads (head (byte ∷ bytes)) m
@@ -136,4 +136,4 @@ head_alone p h = grind (arith, slice_split_none, no_zero)
 
 pub first_piece_alone : (p : List ℕ) → p ≢ [] → HasNoZero p → first_piece p ≡ Some p
 unfolding first_piece
-first_piece_alone p h e = grind (arith, filter, slice_split_none, All-weaker, ne_eqb)
+first_piece_alone p h e = grind (arith, slice_split_none, All-weaker, ne_eqb)

@@ -2,7 +2,7 @@
 -- missing bytes of the last part. By `outcome_of_none_missing` and `outcome_of_some_missing`.
 use Rattle.std.proofs.Common.{◌≡◌, ℕ, ◌+◌, ◌<◌, ◌≤◌, false, IsTrue, eqb, List, [], ◌∷◌, length, take, drop, min, Option, None, Some, Result, Ok, Err, arith, length-take-le, take-append-drop, take_all}
 use Rattle.std.specs.Prelude.{IfOk}
-use Rattle.std.proofs.lemmas.Bool.{cases_eq, ne_eqb, eq-eqb}
+use Rattle.std.proofs.lemmas.Bool.{ne_eqb, eq-eqb}
 use Rattle.cobs.specs.Piece.{output, last_part, missing}
 use Rattle.cobs.specs.Stream.{outcome_of, first_piece, head}
 use Rattle.cobs.specs.Overwritten.{overwritten}
@@ -40,7 +40,7 @@ module _ (buffer h : List ℕ) (some : 0 < length buffer) (is : h ≡ head buffe
 -- the result for a piece whose output fits
 pub result-by : (p : List ℕ) (n k left : ℕ) (r : Result ℕ DecodeError) → 0 < length p → length (output p) ≤ n → k ≡ length (output p) → left ≡ missing (last_part p)
     → (IsTrue (eqb left 0) → r ≡ Ok k) → (eqb left 0 ≡ false → r ≡ Err (InvalidFrame k)) → r ≡ outcome_result (outcome_of p n)
-result-by p n k left r some fits count is whole broken = grind (arith, cases_eq, eq-eqb, ne_eqb, outcome_of_none_missing, outcome_of_some_missing)
+result-by p n k left r some fits count is whole broken = grind (arith, eq-eqb, ne_eqb, outcome_of_none_missing, outcome_of_some_missing)
 
 -- a fact holds whatever is returned
 pub always : {P : Type 0} (r : Result ℕ DecodeError) → P → IfOk r (λ size. P)

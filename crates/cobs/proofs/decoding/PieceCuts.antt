@@ -40,7 +40,7 @@ output-empty (x ∷ p) e = grind arith
 
 pub last_part-more : (code : ℕ) (bytes : List ℕ) → code - 1 < length bytes → last_part (code ∷ bytes) ≡ last_part (drop (code - 1) bytes)
 unfolding last_part parts parts_after
-last_part-more code bytes more = grind (arith, length-drop, parts_after-drop, last_of-cons, parts_after-some)
+last_part-more code bytes more = grind (arith, parts_after-drop, last_of-cons, parts_after-some)
 
 pub last_part-last : (code : ℕ) (bytes : List ℕ) → length bytes ≤ code - 1 → last_part (code ∷ bytes) ≡ code ∷ bytes
 unfolding last_part parts parts_after

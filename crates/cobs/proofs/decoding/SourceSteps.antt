@@ -2,7 +2,6 @@
 -- result for that, by `coded_nonzero`.
 use Rattle.std.proofs.Common.{◌≡◌, ◌≢◌, ℕ, ◌<◌, ◌≤◌, All, List, [], ◌∷◌, length, take, get_or, bit_xor, Err, arith}
 use Rattle.std.specs.Int.Bits.{xor_self}
-use Rattle.std.proofs.lemmas.Bool.{le-leb, lt-leb}
 use Rattle.std.proofs.lemmas.List.{get_or-map, length-map, take-map}
 use Rattle.cobs.specs.Overwritten.{overwritten}
 use Rattle.cobs.specs.Grammar.{HasNoZero}
@@ -21,11 +20,11 @@ use Rattle.cobs.proofs.format.SentinelLemmas.{coded_nonzero}
 module _ (h : List ℕ) (n : ℕ) where
   -- if it fits
   pub result-fits : length (kept_output h) ≤ n → head_result h ≡ head_result_within h n
-  result-fits fits = grind (arith, le-leb)
+  result-fits fits = grind arith
 
   -- if it is too long
   pub result-too_long : n < length (kept_output h) → Err TargetBufTooSmall ≡ head_result_within h n
-  result-too_long long = grind (arith, lt-leb)
+  result-too_long long = grind arith
 
 -- THE SOURCE BEFORE ITS FIRST SENTINEL
 

@@ -1,6 +1,5 @@
 -- A vector form that found memory returns the message m exactly if the list reads as m, and holds m: by `reads_iff`.
 use Rattle.std.proofs.Common.{arith, ◌≡◌, ℕ, ◌<◌, ◌↔◌, cond, List, [], ◌∷◌, length, All, Result, Ok, Err}
-use Rattle.std.proofs.lemmas.Bool.{cases_Bool}
 use Rattle.cobs.specs.Grammar.{Reads}
 use Rattle.cobs.specs.Piece.{output, kept_output, is_whole}
 use Rattle.cobs.specs.Decode.{decoded, decoded_head}
@@ -12,7 +11,7 @@ use Rattle.cobs.proofs.decoding.OutcomeLemmas.{first_piece_alone, head_alone, re
 -- a whole piece by its output, a broken one rejected
 returned_reads : (f m : List ℕ) (count : ℕ) → All (λ b. b < 256) f → IsPiece f → (returned : Result (List ℕ) DecodeError)
     → returned ≡ cond (is_whole f) (Ok (output f)) (Err (InvalidFrame count)) → (returned ≡ Ok m) ↔ Reads f m
-returned_reads f m count below piece returned is = let both = reads_iff f m below in grind (arith, cases_Bool)
+returned_reads f m count below piece returned is = let both = reads_iff f m below in grind arith
 
 decoded_alone : (f : List ℕ) → IsPiece f → decoded f ≡ cond (is_whole f) (Ok (output f)) (Err (InvalidFrame (length (output f))))
 decoded_alone [] piece = grind arith

@@ -1,6 +1,5 @@
 -- A buffer as long as the source has room for all bytes that are decoded from the source, by `output_within`.
 use Rattle.std.proofs.Common.{◌≡◌, ◌≢◌, ℕ, zero, suc, ◌<◌, ◌≤◌, List, [], ◌∷◌, length, take, Option, Some, None, Result, Ok, Err, if◌then◌else◌, arith, take_at, take_all, length-take}
-use Rattle.std.proofs.lemmas.Bool.{le-leb}
 use Rattle.cobs.specs.Overwritten.{overwritten}
 use Rattle.cobs.specs.Piece.{output, is_whole, kept_output}
 use Rattle.cobs.specs.Stream.{outcome_of, first_piece, head}
@@ -27,7 +26,12 @@ first_piece_within (suc b ∷ t) p is = grind (arith, first_piece_head, length-h
 -- the outcome of a piece whose output has room
 outcome_result-fits : (p : List ℕ) (n : ℕ) → length (output p) ≤ n → outcome_result (outcome_of p n) ≡ (if is_whole p then Ok (length (output p)) else Err (InvalidFrame (length (output p))))
 unfolding outcome_of
-outcome_result-fits p n fits = grind (arith, le-leb)
+outcome_result-fits p n fits = grind arith
+
+-- a kept output is no longer than the output
+pub kept_within : (p : List ℕ) → length (kept_output p) ≤ length p
+unfolding kept_output
+kept_within p = grind (arith, output_within, length-take)
 
 -- THE FIRST PIECE
 
@@ -48,29 +52,23 @@ module _ (source : List ℕ) (n : ℕ) (room : n ≡ length source) where
   decoded-is some = grind arith
 
   pub decoded-rejected : (error : DecodeError) → 0 < length source → Err error ≡ result_of_decode source n → Rejected (decoded source) error
-  decoded-rejected error some e = grind (arith, decoded-is, first_piece_within, output_within, outcome_result-fits, result-equals)
+  decoded-rejected error some e = grind (arith, first_piece_within, output_within, outcome_result-fits, result-equals)
 
   pub decoded-message : (report : DecodeReport) (old new : List ℕ) → 0 < length source → length old ≡ n → Ok report ≡ result_of_decode source n → new ≡ overwritten old (first_output source)
       → decoded source ≡ Ok (take (frame_size_of report) new)
-  decoded-message report old new some long e is = grind (arith, decoded-is, piece-message, result-equals)
+  decoded-message report old new some long e is = grind (arith, piece-message, result-equals)
 
--- THE BYTES BEFORE THE FIRST ZERO
+  -- THE BYTES BEFORE THE FIRST ZERO
 
--- a kept output is no longer than the output
-pub kept_within : (p : List ℕ) → length (kept_output p) ≤ length p
-unfolding kept_output
-kept_within p = grind (arith, output_within, length-take)
-
-module _ (source : List ℕ) (n : ℕ) (room : n ≡ length source) where
   -- the message of a source is that of the bytes before its first zero
   head-is : 0 < length source → decoded_head source ≡ message_of_head (head source)
   head-is some = grind arith
 
   -- an error isn't `TargetBufTooSmall`, and a message is the front of the buffer
-  rejected : (error : DecodeError) (h : List ℕ) → Err error ≡ head_result h → (message_of_head h ≡ Err error) × (error ≢ TargetBufTooSmall)
+  rejected : (error : DecodeError) (h : List ℕ) → Err error ≡ head_result h → Rejected (message_of_head h) error
   rejected error h e = grind arith
 
-  pub decoded_head-rejected : (error : DecodeError) → 0 < length source → Err error ≡ result_of_sentinel_decode source n → (decoded_head source ≡ Err error) × (error ≢ TargetBufTooSmall)
+  pub decoded_head-rejected : (error : DecodeError) → 0 < length source → Err error ≡ result_of_sentinel_decode source n → Rejected (decoded_head source) error
   decoded_head-rejected error some e = grind (arith, kept_within, length-head, result-fits, head-is, rejected)
 
   message : (size : ℕ) (old : List ℕ) (h : List ℕ) → length h ≤ length old → Ok size ≡ head_result h → message_of_head h ≡ Ok (take size (overwritten old (kept_output h)))

@@ -1,9 +1,10 @@
--- Lemmas on the kept output of a piece that is written to the front of a buffer byte by byte (`Written`), and on the
--- part of it that comes from each block. They cut the piece after its first block (`kept-block`).
-use Rattle.std.proofs.Common.{◌≡◌, ◌≢◌, ◌∙◌, ◌+◌, ◌-◌, ◌<◌, ◌≤◌, ◌⊎◌, ◌==◌, ℕ, Bool, true, false, cond, if◌then◌else◌, List, [], ◌∷◌, ◌++◌, length, take, drop, get_or, set, Result, Ok, Err, refl, ap, arith, append_assoc, append-nil, drop_at, length-append, length-drop, length-take-le, take-append-drop, take_all, take_at}
-use Rattle.std.proofs.lemmas.Bool.{eq-eqb, ne_eqb, cases_Bool}
+-- Lemmas on the kept output of a piece h that is written to the front of a buffer byte by byte (`Written`). The bytes p
+-- of the piece are still to be decoded (`Left`), or a block and the bytes after it are (`BlockLeft`): its bytes are
+-- written first, and then a zero if it isn't full and other bytes follow it. They cut p after its first block (`kept-joined`).
+use Rattle.std.proofs.Common.{All, ◌≡◌, ◌≢◌, ◌∙◌, ◌+◌, ◌-◌, ◌<◌, ◌≤◌, ◌⊎◌, ◌==◌, ℕ, Bool, true, false, cond, if◌then◌else◌, List, [], ◌∷◌, ◌++◌, length, take, drop, get_or, set, Result, Ok, Err, refl, ap, arith, append_assoc, append-nil, drop_at, length-append, length-drop, length-take-le, take-append-drop, take_all, take_at}
+use Rattle.std.proofs.lemmas.Bool.{cases_Bool}
 use Rattle.std.proofs.lemmas.List.{drop-drop, drop_all, drop_more, get_or-drop, set_at, nil_from_length}
-use Rattle.std.proofs.lemmas.List.Elements.{All-drop, All-get_or, All-take}
+use Rattle.std.proofs.lemmas.List.Elements.{All-drop, All-take}
 use Rattle.std.proofs.lemmas.Grind.{common_steps}
 use Rattle.cobs.specs.Decode.{head_result}
 use Rattle.cobs.specs.Grammar.{HasNoZero, IsBlock, joint}
@@ -29,11 +30,11 @@ zero_before code (byte ∷ bytes) = if code == 255 then [] else 0 ∷ []
 
 pub zero_before-none : (code : ℕ) (next : List ℕ) → (length next ≡ 0) ⊎ (code ≡ 255) → zero_before code next ≡ []
 zero_before-none code [] none = refl
-zero_before-none code (byte ∷ next) none = grind (arith, eq-eqb)
+zero_before-none code (byte ∷ next) none = grind arith
 
 pub zero_before-some : (code : ℕ) (next : List ℕ) → 0 < length next → code ≢ 255 → zero_before code next ≡ 0 ∷ []
 zero_before-some code [] some other = grind arith
-zero_before-some code (byte ∷ next) some other = grind (arith, ne_eqb)
+zero_before-some code (byte ∷ next) some other = grind arith
 
 -- the kept output of a block and the bytes after it, and whether these are whole
 kept-joined : (code : ℕ) (bytes next : List ℕ) → IsBlock (code ∷ bytes) → kept_output ((code ∷ bytes) ++ next) ≡ bytes ++ (zero_before code next ++ kept_output next)
@@ -45,53 +46,16 @@ whole-joined [] next is = absurd is
 whole-joined (code ∷ bytes) [] is = grind (arith, append-nil, block-whole)
 whole-joined (code ∷ bytes) (byte ∷ next) is = front-whole (code ∷ bytes) (byte ∷ next) is (λ e. cc)
 
--- some bytes that begin with this code
-module _ (p : List ℕ) (code : ℕ) (some : 0 < length p) (is : code ≡ get_or p 0 0) where
-  front : p ≡ code ∷ drop 1 p
-  front = grind (arith, drop_more)
-
-  -- these bytes break off inside the block
-  module _ (less : length p < code) where
-    kept-none : kept_output p ≡ []
-    kept-none = grind (arith, front, kept-broken, length-drop)
-
-    whole-none : whole_left p ≡ false
-    whole-none = grind (arith, front, broken-part, length-drop)
-
-  module _ (nonzero : HasNoZero p) where
-    pub code-some : 0 < code
-    code-some = grind (arith, All-get_or)
-
-    -- these bytes have the whole block
-    module _ (below : code < 256) (fits : code ≤ length p) where
-      abbrev bytes : List ℕ
-      bytes = take (code - 1) (drop 1 p)
-
-      block : IsBlock (code ∷ bytes)
-      block = (omega (arith, length-take-le (code - 1) (drop 1 p), length-drop 1 p, code-some), below, All-take (λ byte. byte ≢ 0) (code - 1) (drop 1 p) (All-drop (λ byte. byte ≢ 0) 1 p nonzero))
-
-      cut : p ≡ (code ∷ bytes) ++ drop code p
-      cut = grind (arith, code-some, front, take-append-drop, drop-drop)
-
-      pub kept-block : kept_output p ≡ bytes ++ (zero_before code (drop code p) ++ kept_output (drop code p))
-      kept-block = grind (arith, cut, kept-joined, block)
-
-      pub whole-block : whole_left p ≡ whole_left (drop code p)
-      whole-block = ap whole_left cut ∙ whole-joined (code ∷ bytes) (drop code p) block
-
 -- THE BYTES IN THE BUFFER
 
 -- the first `written` bytes of the kept output of h are at the front of the buffer, and the bytes `left` are still to
 -- be written; the buffer's other bytes are as they were
-pub record Written (h old buffer : List ℕ) (written : ℕ) (left : List ℕ) : Type 0 where
-  pub done : List ℕ
-  pub count : length done ≡ written
-  pub room : written ≤ length old
-  pub holds : buffer ≡ done ++ drop written old
-  pub kept : kept_output h ≡ done ++ left
-
-pub written-none : (h old : List ℕ) → Written h old old 0 (kept_output h)
-written-none h old = grind arith
+record Written (h old buffer : List ℕ) (written : ℕ) (left : List ℕ) : Type 0 where
+  done : List ℕ
+  count : length done ≡ written
+  room : written ≤ length old
+  holds : buffer ≡ done ++ drop written old
+  kept : kept_output h ≡ done ++ left
 
 -- the result for bytes of which n are kept
 kept-result : (h : List ℕ) (whole : Bool) (n : ℕ) → whole_left h ≡ whole → length (kept_output h) ≡ n → cond whole (Ok n) (Err (InvalidFrame n)) ≡ head_result h
@@ -99,11 +63,11 @@ kept-result [] whole n w is = grind (arith, kept_output-empty)
 kept-result (byte ∷ h) whole n w is = grind (arith, cases_Bool, all-kept)
 
 module _ {h old buffer : List ℕ} {written : ℕ} {left : List ℕ} (s : Written h old buffer written left) where
-  pub written-long : length buffer ≡ length old
+  written-long : length buffer ≡ length old
   written-long = grind (arith, length-append, length-drop)
 
   -- the bytes of the buffer after the written ones are as they were
-  pub written-behind : (k : ℕ) → written ≤ k → get_or buffer k 0 ≡ get_or old k 0
+  written-behind : (k : ℕ) → written ≤ k → get_or buffer k 0 ≡ get_or old k 0
   written-behind k order = grind (arith, common_steps, drop_at, get_or-drop)
 
   -- nothing is left to be written
@@ -113,11 +77,11 @@ module _ {h old buffer : List ℕ} {written : ℕ} {left : List ℕ} (s : Writte
     kept-long = grind (arith, append-nil)
 
     all-written : (whole : Bool) → whole_left h ≡ whole → Decoded h old buffer (cond whole (Ok written) (Err (InvalidFrame written)))
-    all-written whole w = grind (arith, common_steps, take_all, kept-result, kept-long, append-nil, result-fits)
+    all-written whole w = grind (arith, take_all, kept-result, kept-long, append-nil, result-fits)
 
   -- the next byte
   module _ (byte : ℕ) (more : List ℕ) (next : left ≡ byte ∷ more) where
-    pub written-more : written < length buffer → Written h old (set buffer written byte) (written + 1) more
+    written-more : written < length buffer → Written h old (set buffer written byte) (written + 1) more
     written-more room =
         let less : written < length old = omega (arith, written-long) in
         record {
@@ -129,19 +93,105 @@ module _ {h old buffer : List ℕ} {written : ℕ} {left : List ℕ} (s : Writte
         }
 
     -- there is no room for the next byte
-    pub buffer-full : length buffer ≤ written → Decoded h old buffer (Err TargetBufTooSmall)
-    buffer-full no-room = grind (arith, written-long, length-append, result-too_long, take_at, drop_all)
+    no-room : length buffer ≤ written → Decoded h old buffer (Err TargetBufTooSmall)
+    no-room full = grind (arith, written-long, length-append, result-too_long, take_at, drop_all)
 
--- the remaining bytes p aren't written yet, and h is whole if they are
-module _ {h old buffer : List ℕ} {written : ℕ} (p : List ℕ) (s : Written h old buffer written (kept_output p)) (same : whole_left h ≡ whole_left p) where
-  -- there are none
-  pub decoded-all : length p ≡ 0 → Decoded h old buffer (Ok written)
-  decoded-all none = let nil = nil_from_length p none in all-written s (ap kept_output nil ∙ kept_output-empty) true (same ∙ ap whole_left nil)
+-- THE BYTES THAT ARE STILL TO BE DECODED
 
-  -- they break off inside their first block
-  pub decoded-broken : 0 < length p → length p < get_or p 0 0 → Decoded h old buffer (Err (InvalidFrame written))
-  decoded-broken some less = all-written s (kept-none p _ some refl less) false (same ∙ whole-none p _ some refl less)
+-- the bytes p are still to be decoded
+pub record Left (h old buffer : List ℕ) (written : ℕ) (p : List ℕ) : Type 0 where
+  pub nonzero : HasNoZero p
+  pub below : All (λ byte. byte < 256) p
+  pub whole : whole_left h ≡ whole_left p
+  written-is : Written h old buffer written (kept_output p)
+
+-- these bytes of a block with this code, and then the bytes after it
+pub record BlockLeft (h old buffer : List ℕ) (written : ℕ) (bytes : List ℕ) (code : ℕ) (next : List ℕ) : Type 0 where
+  nonzero : HasNoZero next
+  below : All (λ byte. byte < 256) next
+  whole : whole_left h ≡ whole_left next
+  written-is : Written h old buffer written (bytes ++ (zero_before code next ++ kept_output next))
+
+pub left-all : (h old : List ℕ) → HasNoZero h → All (λ byte. byte < 256) h → Left h old old 0 h
+left-all h old nonzero below = grind arith
+
+module _ {h old buffer p : List ℕ} {written : ℕ} (l : Left h old buffer written p) where
+  pub left-behind : (k : ℕ) → written ≤ k → get_or buffer k 0 ≡ get_or old k 0
+  left-behind = written-behind l.written-is
+
+  -- no byte is left
+  pub left-none : length p ≡ 0 → Decoded h old buffer (Ok written)
+  left-none none = let nil = nil_from_length p none in all-written l.written-is (ap kept_output nil ∙ kept_output-empty) true (l.whole ∙ ap whole_left nil)
+
+  -- bytes that begin with this code
+  module _ (code : ℕ) (some : 0 < length p) (is : code ≡ get_or p 0 0) where
+    front : p ≡ code ∷ drop 1 p
+    front = grind arith
+
+    pub code-some : 0 < code
+    code-some = grind (arith, l.nonzero)
+
+    -- they break off inside the block
+    pub left-broken : length p < code → Decoded h old buffer (Err (InvalidFrame written))
+    left-broken less =
+        let none : kept_output p ≡ [] = grind (arith, kept-broken, length-drop) in
+        let broken : whole_left p ≡ false = grind (arith, front, broken-part, length-drop) in
+        all-written l.written-is none false (l.whole ∙ broken)
+
+    -- they have the whole block
+    module _ (fits : code ≤ length p) where
+      abbrev bytes : List ℕ
+      bytes = take (code - 1) (drop 1 p)
+
+      block : IsBlock (code ∷ bytes)
+      block = (omega (arith, length-take-le (code - 1) (drop 1 p), length-drop 1 p, code-some), grind (arith, l.below), All-take (λ byte. byte ≢ 0) (code - 1) (drop 1 p) (All-drop (λ byte. byte ≢ 0) 1 p l.nonzero))
+
+      cut : p ≡ (code ∷ bytes) ++ drop code p
+      cut = grind (arith, front, take-append-drop, drop-drop)
+
+      pub left-block : BlockLeft h old buffer written bytes code (drop code p)
+      left-block = record {
+        nonzero = All-drop (λ byte. byte ≢ 0) code p l.nonzero;
+        below = All-drop (λ byte. byte < 256) code p l.below;
+        whole = l.whole ∙ ap whole_left cut ∙ whole-joined (code ∷ bytes) (drop code p) block;
+        written-is = rw (ap kept_output cut ∙ kept-joined code bytes (drop code p) block) at l.written-is;
+      }
+
+module _ {h old buffer bytes next : List ℕ} {written code : ℕ} (b : BlockLeft h old buffer written bytes code next) where
+  pub block-behind : (k : ℕ) → written ≤ k → get_or buffer k 0 ≡ get_or old k 0
+  block-behind = written-behind b.written-is
+
+  pub block-long : length buffer ≡ length old
+  block-long = written-long b.written-is
+
+-- the next byte of a block
+module _ {h old buffer bytes next : List ℕ} {written code byte : ℕ} (more : List ℕ) (is : bytes ≡ byte ∷ more)
+    (b : BlockLeft h old buffer written bytes code next) where
+  joined : bytes ++ (zero_before code next ++ kept_output next) ≡ byte ∷ (more ++ (zero_before code next ++ kept_output next))
+  joined = rw is refl
+
+  pub block-more : written < length buffer → BlockLeft h old (set buffer written byte) (written + 1) more code next
+  block-more room = record { nonzero = b.nonzero; below = b.below; whole = b.whole; written-is = written-more b.written-is byte _ joined room }
+
+  pub block-full : length buffer ≤ written → Decoded h old buffer (Err TargetBufTooSmall)
+  block-full full = no-room b.written-is byte _ joined full
+
+-- after the last byte of a block
+module _ {h old buffer bytes next : List ℕ} {written code : ℕ} (none : bytes ≡ []) (b : BlockLeft h old buffer written bytes code next) where
+  pub block-last : (length next ≡ 0) ⊎ (code ≡ 255) → Left h old buffer written next
+  block-last last = record { nonzero = b.nonzero; below = b.below; whole = b.whole; written-is = rw (none, zero_before-none code next last) at b.written-is }
+
+  -- a zero joins it to the next block
+  module _ (some : 0 < length next) (other : code ≢ 255) where
+    zero-next : Written h old buffer written (0 ∷ kept_output next)
+    zero-next = rw (none, zero_before-some code next some other) at b.written-is
+
+    pub block-zero : written < length buffer → Left h old (set buffer written 0) (written + 1) next
+    block-zero room = record { nonzero = b.nonzero; below = b.below; whole = b.whole; written-is = written-more zero-next 0 (kept_output next) refl room }
+
+    pub zero-full : length buffer ≤ written → Decoded h old buffer (Err TargetBufTooSmall)
+    zero-full full = no-room zero-next 0 (kept_output next) refl full
 
 -- in place there is always room
 pub decoded-in_place : (h old : List ℕ) {buffer : List ℕ} {result : Result ℕ DecodeError} → length h ≤ length old → Decoded h old buffer result → DecodedInPlace h old buffer result
-decoded-in_place h old fits d = grind (arith, result-fits, kept_within)
+decoded-in_place h old fits d = grind (arith, kept_within)

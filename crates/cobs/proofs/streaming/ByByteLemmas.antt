@@ -1,4 +1,4 @@
--- A piece that is taken byte by byte: each byte continues or ends the piece, by `SoFar-more` and `TakesBytes-byte`.
+-- A piece that is taken byte by byte: each byte continues or ends the piece, by `takes-more` and `TakesBytes-byte`.
 use Rattle.std.proofs.Common.{◌≡◌, ◌≢◌, ℕ, ◌+◌, ◌<◌, ◌≤◌, List, [], ◌∷◌, ◌++◌, length, take, drop, get_or, Option, Some, None, Result, refl, ◌∙◌, arith, append_assoc, inl, inr, IfOk, IfSome}
 use Rattle.std.proofs.lemmas.Bool.{cases_eq, eq-eqb, ne_eqb}
 use Rattle.std.proofs.lemmas.List.{append-nil, take_more}
@@ -12,7 +12,7 @@ use Rattle.cobs.specs.declared.error.DecodeError.{DecodeError}
 use Rattle.cobs.specs.declared.dec.frame_decoder.PieceEnd.{PieceEnd}
 use Rattle.cobs.proofs.format.StreamLemmas.{fed-nonzero, unended-push, unended-no_zero, ended_pieces-no_zero}
 use Rattle.cobs.proofs.streaming.LastPiece.{overwritten-is, output-longer, last_piece-unended, last_piece-zero, ended_pieces-nonzero}
-use Rattle.cobs.proofs.streaming.SoFar.{SoFar-start, SoFar-more, TakesBytes-byte, outcome_reported, reported_by, count-within, phase_so_far, no_outcomes}
+use Rattle.cobs.proofs.streaming.SoFar.{takes-nothing, takes-more, TakesBytes-byte, outcome_reported, reported_by, count-within, phase_so_far, no_outcomes}
 use Rattle.cobs_bytes.proofs.bytes.ListLemmas.{drop-later}
 
 -- THE RESULT FOR A ZERO
@@ -27,7 +27,7 @@ stated-some result buffer end e bound = grind arith
 -- before the first byte
 pub piece-nothing : (buffer : List ℕ) (phase : Phase) → TakesPiece buffer phase [] None buffer phase
 piece-nothing buffer phase = record {
-  takes = SoFar-start buffer phase;
+  takes = takes-nothing buffer phase;
   ends = tt;
   holds = λ p h. overwritten-is _ buffer buffer refl (rw (last p h.phased) h.begins) refl;
   untouched = λ p h. refl;
@@ -79,7 +79,7 @@ module _ {buffer₀ buffer buffer' : List ℕ} {phase₀ phase phase' : Phase} {
   holds_behind p h = grind (arith, overwritten-is, begins_behind, untouched_behind)
 
   pub takes_behind : TakesBytes buffer₀ phase₀ (take (i + 1) bytes) (reported_by (get_or bytes i 0) result buffer') buffer' phase'
-  takes_behind = rw (take_more bytes i 0 inside) (SoFar-more t.takes (TakesBytes-byte f))
+  takes_behind = rw (take_more bytes i 0 inside) (takes-more t.takes (TakesBytes-byte f))
 
   -- the byte ends no piece
   pub piece-more : (get_or bytes i 0 ≡ 0 → end_reported result ≡ None) → TakesPiece buffer₀ phase₀ (take (i + 1) bytes) None buffer' phase'
@@ -94,7 +94,7 @@ module _ {buffer₀ buffer buffer' : List ℕ} {phase₀ phase phase' : Phase} {
   }
     where
       nothing : reported_by (get_or bytes i 0) result buffer' ≡ []
-      nothing = grind (arith, cases_eq, eq-eqb, ne_eqb)
+      nothing = grind (arith, eq-eqb, ne_eqb)
 
   -- the byte ends a piece
   pub piece-ended : (end : PieceEnd) → get_or bytes i 0 ≡ 0 → end_reported result ≡ Some end → TakesPiece buffer₀ phase₀ bytes (Some (end, i + 1)) buffer' phase'

@@ -1,10 +1,10 @@
 -- A step of the machine of `Step` meets `Feeds` (`Feeds-step`): after a front of a piece, its phase and its buffer are
 -- those for the front with the byte, and its result is the one for the byte. By `PieceLemmas`, with one case for each
 -- phase.
-use Rattle.std.proofs.Common.{◌≡◌, ◌≢◌, ℕ, zero, suc, ◌+◌, ◌<◌, ◌≤◌, Bool, false, cond, leb, eqb, List, [], ◌∷◌, ◌++◌, length, take, drop, set, refl, sym, arith, length-append, Option, None, Result, Ok, Err, add-one, inl, inr, ◌⊎◌, true}
+use Rattle.std.proofs.Common.{◌≡◌, ◌≢◌, ℕ, zero, suc, ◌+◌, ◌<◌, ◌≤◌, Bool, false, cond, leb, List, [], ◌∷◌, ◌++◌, length, take, drop, set, refl, sym, arith, length-append, Option, None, Result, Ok, Err, add-one, inl, inr, ◌⊎◌, true}
 use Rattle.std.proofs.lemmas.List.{take_all, take-append-le, append-nil, length_push, take_more_set, set_past, drop-set-lt, length-set}
 use Rattle.std.proofs.lemmas.List.Elements.{All-push, All-nil}
-use Rattle.std.proofs.lemmas.Bool.{cases_lt, cond-true, cond-false, ne_eqb, le-leb, leb-true, lt-leb, cases_Bool}
+use Rattle.std.proofs.lemmas.Bool.{cases_lt, cond-true, cond-false, ne_eqb, le-leb, lt-leb, cases_Bool}
 use Rattle.cobs.specs.Grammar.{HasNoZero, is_full}
 use Rattle.cobs.specs.Piece.{missing, output, last_part, is_whole}
 use Rattle.cobs.specs.Stream.{outcome_of}
@@ -24,7 +24,7 @@ use Rattle.cobs.proofs.decoding.PieceLemmas.{output-one, last_part-one, output-p
 
 -- a decoder whose output was too long is in the phase `Overlong`, whatever its other numbers are
 pub over_is : (decoder : UnbufferedDecoder) → decoder.too_long ≢ 0 → phase_of decoder ≡ Overlong
-over_is decoder nz = grind (arith, ne_eqb)
+over_is decoder nz = grind arith
 
 -- the phase after a piece, from what is known about the piece
 phase_after-is : (c : ℕ) (q : List ℕ) (n : ℕ) (full : Bool) (left count : ℕ) → is_full (last_part (c ∷ q)) ≡ full → missing (last_part (c ∷ q)) ≡ left → length (output (c ∷ q)) ≡ count
@@ -43,14 +43,11 @@ next_buffer-zero buffer phase = grind arith
 grows-is : (n : ℕ) (full : Bool) (left count : ℕ) → grows n full left count ≡ cond (leb (count + 1) n) (Within full left (count + 1)) Overlong
 grows-is n full left count = rw add-one refl
 
-nonzero : (b : ℕ) → 0 < b → eqb b 0 ≡ false
-nonzero b h = grind (arith, ne_eqb)
-
 -- within a part
-within_step : (n c : ℕ) (q : List ℕ) (b : ℕ) (full : Bool) (left : ℕ) → EndsIn (c ∷ q) full left → 0 < b → length (output (c ∷ q)) ≤ n
+within_step : (n c : ℕ) (q : List ℕ) (b : ℕ) (full : Bool) (left : ℕ) → EndsIn (c ∷ q) full left → b ≢ 0 → length (output (c ∷ q)) ≤ n
     → next_phase n (Within full left (length (output (c ∷ q)))) b ≡ phase_after (c ∷ q ++ b ∷ []) n
-within_step n c q b full (suc left) is h fits = grind (arith, nonzero, grows-is, phase_after-is, is_full-push_more (c ∷ q) b, missing-push_more (c ∷ q) b, output-push_more (c ∷ q) b, length_push)
-within_step n c q b full zero is h fits = grind (arith, cases_Bool, nonzero, grows-is, phase_after-is, last_part-push_next (c ∷ q) b, output-push_next, append-nil, length_push, cond-true, le-leb)
+within_step n c q b full (suc left) is h fits = grind (arith, ne_eqb, grows-is, phase_after-is, is_full-push_more (c ∷ q) b, missing-push_more (c ∷ q) b, output-push_more (c ∷ q) b, length_push)
+within_step n c q b full zero is h fits = grind (arith, cases_Bool, ne_eqb, grows-is, phase_after-is, last_part-push_next (c ∷ q) b, output-push_next, append-nil, length_push, cond-true, le-leb)
 
 -- the phase after a piece whose output fits, and after one whose output is too long
 fits_phase : (c : ℕ) (q : List ℕ) (n : ℕ) → length (output (c ∷ q)) ≤ n → phase_after (c ∷ q) n ≡ Within (is_full (last_part (c ∷ q))) (missing (last_part (c ∷ q))) (length (output (c ∷ q)))
@@ -60,10 +57,10 @@ over_phase : (c : ℕ) (q : List ℕ) (n : ℕ) → n < length (output (c ∷ q)
 over_phase c q n h = grind (arith, phase_after-is, cond-false, lt-leb)
 
 -- the phase after one more byte
-nonzero_step : (n : ℕ) (p : List ℕ) (b : ℕ) → 0 < b → next_phase n (phase_after p n) b ≡ phase_after (p ++ b ∷ []) n
+nonzero_step : (n : ℕ) (p : List ℕ) (b : ℕ) → b ≢ 0 → next_phase n (phase_after p n) b ≡ phase_after (p ++ b ∷ []) n
 unfolding phase_after
-nonzero_step n [] b h = grind (arith, nonzero, phase_after-is, last_part-one, output-one, cond-true, le-leb)
-nonzero_step n (c ∷ q) b h = grind (arith, cases_lt, over_phase, nonzero, output-longer (c ∷ q) b, fits_phase, within_step)
+nonzero_step n [] b h = grind (arith, phase_after-is, last_part-one, output-one, cond-true, le-leb)
+nonzero_step n (c ∷ q) b h = grind (arith, cases_lt, over_phase, ne_eqb, output-longer (c ∷ q) b, fits_phase, within_step)
 
 -- RESULTS
 
@@ -71,11 +68,11 @@ nonzero_step n (c ∷ q) b h = grind (arith, cases_lt, over_phase, nonzero, outp
 result_within : (n c : ℕ) (q : List ℕ) (left : ℕ) → missing (last_part (c ∷ q)) ≡ left → length (output (c ∷ q)) ≤ n
     → end_result n (Within (is_full (last_part (c ∷ q))) left (length (output (c ∷ q)))) ≡ result_at_end (c ∷ q) n
 unfolding result_at_end outcome_of is_whole
-result_within n c q left h e = grind (arith, cond-true, le-leb, nonzero)
+result_within n c q left h e = grind (arith, le-leb, ne_eqb)
 
 end_result-is : (n : ℕ) (p : List ℕ) → end_result n (phase_after p n) ≡ result_at_end p n
 unfolding phase_after result_at_end
-end_result-is n p = grind (arith, cases_lt, over_phase, outcome_of_long, fits_phase, result_within)
+end_result-is n p = grind (arith, over_phase, outcome_of_long, fits_phase, result_within)
 
 -- the result for a byte of a piece
 error_if_overlong-push : (p : List ℕ) (b n : ℕ) → error_if_overlong (phase_after (p ++ b ∷ []) n) ≡ cond (leb (length (output (p ++ b ∷ []))) n) (Ok None) (Err TargetBufTooSmall)
@@ -90,34 +87,34 @@ abbrev pub Begins : List ℕ → List ℕ → Type 0
 Begins buffer o = take (length o) buffer ≡ take (length buffer) o
 
 begins-nil : (buffer : List ℕ) → Begins buffer []
-begins-nil buffer = grind (arith, take_all)
+begins-nil buffer = grind arith
 
 -- a full buffer, and one that gets a byte
 begins-over : (buffer o more : List ℕ) → length buffer ≤ length o → Begins buffer o → Begins buffer (o ++ more)
 begins-over buffer o more h e = grind (arith, take_all, length-append, take-append-le)
 
 begins-push : (buffer o : List ℕ) (w : ℕ) → Begins buffer o → Begins (set buffer (length o) w) (o ++ w ∷ [])
-begins-push buffer o w e = grind (arith, cases_lt, length_push, take_more_set, take_all, length-set, set_past, begins-over)
+begins-push buffer o w e = grind (arith, length_push, take_more_set, take_all, length-set, set_past, begins-over)
 
 -- a byte of a piece changes neither the output nor the buffer, or it adds the same byte to both
-adds_same : (buffer : List ℕ) (c : ℕ) (q : List ℕ) (b : ℕ) (full : Bool) (left : ℕ) → EndsIn (c ∷ q) full left → 0 < b
+adds_same : (buffer : List ℕ) (c : ℕ) (q : List ℕ) (b : ℕ) (full : Bool) (left : ℕ) → EndsIn (c ∷ q) full left → b ≢ 0
     → let o = output (c ∷ q) in let o' = output (c ∷ q ++ b ∷ []) in let buffer' = next_buffer buffer (Within full left (length o)) b in
     ((o' ≡ o) × (buffer' ≡ buffer)) ⊎ ((w : ℕ) × (o' ≡ o ++ w ∷ []) × (buffer' ≡ set buffer (length o) w))
-adds_same buffer c q b full (suc left) is h = inr (b, grind (arith, output-push_more (c ∷ q) b), grind (arith, nonzero))
+adds_same buffer c q b full (suc left) is h = inr (b, grind (arith, output-push_more (c ∷ q) b), grind arith)
 adds_same buffer c q b true zero is h = inl (grind (arith, output-push_next, append-nil), grind arith)
-adds_same buffer c q b false zero is h = inr (0, grind (arith, output-push_next), grind (arith, nonzero))
+adds_same buffer c q b false zero is h = inr (0, grind (arith, output-push_next), grind (arith, ne_eqb))
 
-begins-nonzero : (buffer p : List ℕ) (b : ℕ) → 0 < b → Begins buffer (output p) → Begins (next_buffer buffer (phase_after p (length buffer)) b) (output (p ++ b ∷ []))
+begins-nonzero : (buffer p : List ℕ) (b : ℕ) → b ≢ 0 → Begins buffer (output p) → Begins (next_buffer buffer (phase_after p (length buffer)) b) (output (p ++ b ∷ []))
 unfolding phase_after
 begins-nonzero buffer [] b h e = rw (output-one b) (begins-nil buffer)
 begins-nonzero buffer (c ∷ q) b h e = grind (arith, cases_lt, over_phase, fits_phase, begins-over, begins-push, adds_same, output-push c q b)
 
 begins-step : (buffer p : List ℕ) (b : ℕ) → Begins buffer (output p) → Begins (next_buffer buffer (phase_after p (length buffer)) b) (output (fed p b))
-begins-step buffer p zero e = grind (arith, next_buffer-zero, output-nil, begins-nil)
+begins-step buffer p zero e = grind (arith, output-nil, begins-nil)
 begins-step buffer p (suc b) e = grind (arith, fed-nonzero, begins-nonzero)
 
 length-next_buffer : (buffer : List ℕ) (phase : Phase) (b : ℕ) → length (next_buffer buffer phase b) ≡ length buffer
-length-next_buffer buffer phase b = grind (arith, eqb, length-set)
+length-next_buffer buffer phase b = grind (arith, length-set)
 
 piece-fed : (p : List ℕ) (b : ℕ) → HasNoZero p → HasNoZero (fed p b)
 piece-fed p zero h = All-nil (λ byte. byte ≢ 0)
@@ -131,7 +128,7 @@ PhaseAfter-step n phase b p h = grind (arith, piece-fed, next_phase-zero, nonzer
 
 PhaseAfter-result_for : (n : ℕ) (phase : Phase) (b : ℕ) (p : List ℕ) → PhaseAfter n phase p → next_result n phase b ≡ result_for p b n
 unfolding result_for
-PhaseAfter-result_for n phase b p h = grind (arith, end_result-is, nonzero, nonzero_step, error_if_overlong-push)
+PhaseAfter-result_for n phase b p h = grind (arith, end_result-is, ne_eqb, nonzero_step, error_if_overlong-push)
 
 DecoderAfter-step : (buffer : List ℕ) (phase : Phase) (b : ℕ) (p : List ℕ) → DecoderAfter buffer phase p → DecoderAfter (next_buffer buffer phase b) (next_phase (length buffer) phase b) (fed p b)
 DecoderAfter-step buffer phase b p h = grind (arith, common_steps, length-next_buffer, PhaseAfter-step, begins-step)
@@ -140,16 +137,16 @@ DecoderAfter-step buffer phase b p h = grind (arith, common_steps, length-next_b
 PhaseAfter-untouched : (buffer : List ℕ) (phase : Phase) (b : ℕ) (p : List ℕ) → PhaseAfter (length buffer) phase p → b ≢ 0
     → drop (length (output (p ++ b ∷ []))) (next_buffer buffer phase b) ≡ drop (length (output (p ++ b ∷ []))) buffer
 unfolding phase_after
-PhaseAfter-untouched buffer phase b p h nz = grind (arith, cases_lt, over_phase, fits_phase, adds_same, drop-set-lt, length_push)
+PhaseAfter-untouched buffer phase b p h nz = grind (arith, over_phase, fits_phase, adds_same, drop-set-lt, length_push)
 
 -- an idle decoder has taken nothing of a piece, whatever its buffer holds
 pub DecoderAfter-idle : (buffer : List ℕ) (phase : Phase) → phase ≡ Idle → DecoderAfter buffer phase []
 unfolding phase_after
-DecoderAfter-idle buffer phase e = grind (arith, All-nil, output-nil, begins-nil)
+DecoderAfter-idle buffer phase e = grind (arith, output-nil, begins-nil)
 
 -- no more bytes are reported than the buffer has
 result-bound : (n : ℕ) (phase : Phase) (byte : ℕ) → IfOk (next_result n phase byte) (λ found. IfSome found (λ k. k ≤ n))
-result-bound n phase byte = grind (arith, leb-true)
+result-bound n phase byte = grind arith
 
 -- the machine feeds a byte
 pub Feeds-step : (buffer : List ℕ) (phase : Phase) (b : ℕ) → let n = length buffer in Feeds buffer phase b (next_result n phase b) (next_buffer buffer phase b) (next_phase n phase b)

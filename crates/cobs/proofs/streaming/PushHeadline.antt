@@ -1,7 +1,7 @@
 -- A push of a list and the zero after it reports the message m exactly if the list's outcome is m (`outcome_message`): by
 -- `PushesBytes`, whose field `outcomes` says it of a push through the zero, and `push_returns` of an error before it.
 use Rattle.std.proofs.Common.{◌≡◌, ◌≢◌, ℕ, ◌+◌, ◌<◌, ◌≤◌, Fits, get_or, w8, ◌↔◌, List, [], ◌∷◌, ◌++◌, length, take, All, Option, Some, None, Result, Ok, Err, sym, ap, ◌∙◌, arith, length-append, length-take-le, take-append-drop, drop, inl, inr, ◌-◌}
-use Rattle.std.proofs.lemmas.Bool.{cases_lt, cases_Bool, eq-eqb, ne_eqb, le-leb}
+use Rattle.std.proofs.lemmas.Bool.{cases_lt, eq-eqb, le-leb}
 use Rattle.std.proofs.lemmas.List.{take-append-le, take_more, get_or_append_left}
 use Rattle.std.proofs.lemmas.List.Elements.{All-take, All-get_or}
 use Rattle.cobs.specs.Grammar.{HasNoZero, Reads}
@@ -29,7 +29,7 @@ output-take f k = rw (take-append-drop k f) at (output-grows (take k f) (drop k 
 -- a byte of the piece whose output so far fits returns `Ok(None)`
 result_for-quiet : (q : List ℕ) (b n : ℕ) → b ≢ 0 → length (output (q ++ b ∷ [])) ≤ n → result_for q b n ≡ Ok None
 unfolding result_for
-result_for-quiet q b n some fits = grind (arith, ne_eqb, le-leb)
+result_for-quiet q b n some fits = grind (arith, le-leb)
 
 -- so do the bytes of a piece before its zero, if the output fits
 quiet_inside : (f : List ℕ) (n place : ℕ) → HasNoZero f → length (output f) ≤ n → place < length f → result_at [] (f ++ 0 ∷ []) n place ≡ Ok None
@@ -37,12 +37,12 @@ quiet_inside f n place piece fits within =
     let front : take place (f ++ 0 ∷ []) ≡ take place f = take-append-le place f (0 ∷ []) (omega arith) in
     let same : unended (take place (f ++ 0 ∷ [])) ≡ take place f
     = ap unended front ∙ unended-no_zero (take place f) (All-take (λ b. b ≢ 0) place f piece) in
-    grind (arith, take-append-le, unended-no_zero, All-take, get_or_append_left, take_more, output-take, result_for-quiet, All-get_or)
+    grind (arith, unended-no_zero, All-take, get_or_append_left, take_more, output-take, result_for-quiet, All-get_or)
 
 -- a push that fails reports no message
 pushed-no_message : (bytes : List ℕ) (failure : PushError) (buffer m : List ℕ) (rest : List Outcome)
     → Message m ∷ rest ≡ pushed_outcomes bytes (Err failure) buffer → ⊥
-pushed-no_message bytes failure buffer m rest e = grind (arith, cases_Bool)
+pushed-no_message bytes failure buffer m rest e = grind arith
 
 module _ (buffer bytes buffer' f m : List ℕ) (phase phase' : Phase) (idle : phase ≡ Idle) (is : bytes ≡ f ++ 0 ∷ []) (piece : IsPiece f) where
   after : DecoderAfter buffer phase []

@@ -22,7 +22,7 @@ use Rattle.cobs.specs.declared.error.PushError.{PushError}
 -- a byte that is no zero returns no message
 message_at_zero : (q : List ℕ) (b n k : ℕ) → result_for q b n ≡ Ok (Some k) → b ≡ 0
 unfolding result_for
-message_at_zero q b n k h = grind (arith, ne_eqb)
+message_at_zero q b n k h = grind arith
 
 -- the result for the byte at this place, if the bytes are fed one by one after the front p
 abbrev pub result_at : List ℕ → List ℕ → ℕ → ℕ → Result (Option ℕ) DecodeError
@@ -34,7 +34,7 @@ IsQuiet p bytes n i = (place : ℕ) → place < i → result_at p bytes n place 
 
 -- the byte after the first i bytes, which ends the push
 ends_at : (p bytes : List ℕ) (n i place : ℕ) (r : Result (Option ℕ) DecodeError) → IsQuiet p bytes n i → result_at p bytes n i ≡ r → place < i + 1 → result_at p bytes n place ≡ cond (eqb (place + 1) (i + 1)) r (Ok None)
-ends_at p bytes n i place r quiet last within = grind (arith, eq-eqb, ne_eqb, cases_eq)
+ends_at p bytes n i place r quiet last within = grind (arith, ne_eqb, cases_eq)
 
 -- the first i bytes took a decoder from a buffer and phase to others, and each returned `Ok(None)`
 pub record Pushed (buffer₀ : List ℕ) (phase₀ : Phase) (buffer : List ℕ) (phase : Phase) (bytes : List ℕ) (i : ℕ) : Type 0 where
@@ -62,7 +62,7 @@ module _ {buffer₀ buffer buffer' : List ℕ} {phase₀ phase phase' : Phase} {
     (s : Pushed buffer₀ phase₀ buffer phase bytes i) (f : Feeds buffer phase (get_or bytes i 0) result buffer' phase') where
   -- the byte after the first i bytes returns the result; after it, `zero_idle` and `feeds` hold again
   result_here : (p : List ℕ) → PhaseAfter (length buffer₀) phase₀ p → result_at p bytes (length buffer₀) i ≡ result
-  result_here p h = grind (arith, get_or, phase_so_far)
+  result_here p h = grind (arith, phase_so_far)
 
   zero_behind : (front : List ℕ) → take (i + 1) bytes ≡ front ++ 0 ∷ [] → phase' ≡ Idle
   zero_behind front e = grind (arith, common_steps, same_from_push, take_more)
@@ -92,8 +92,8 @@ module _ {buffer₀ buffer buffer' : List ℕ} {phase₀ phase phase' : Phase} {
     holds = rw (consumed, count) (holds_behind bytes i within s.piece f);
     untouched = rw (consumed, count) (untouched_behind bytes i within s.piece f);
     outcomes = rw (consumed, count) (λ p h. sym (takes.outcomes p h) ∙ outcomes p h);
-    some = λ _. omega (arith, count);
-    within = omega (arith, count, within);
+    some = λ _. omega arith;
+    within = omega (arith, within);
     bound = bound;
     zero_idle = rw (consumed, count) zero_behind;
     feeds = rw (consumed, count, last) feeds_behind;

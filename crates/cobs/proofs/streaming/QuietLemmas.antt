@@ -2,7 +2,7 @@
 -- phase is that after them. They are a piece that hasn't ended (`piece-all`).
 use Rattle.std.proofs.Common.{◌≡◌, ◌≢◌, ℕ, ◌<◌, ◌≤◌, Bool, cond, eqb, List, [], ◌∷◌, ◌++◌, length, drop, get_or, refl, sym, ap, ◌∙◌, subst, arith, append_assoc, append-nil, take_all, inl, inr, ◌+◌}
 use Rattle.std.proofs.lemmas.List.{drop_all}
-use Rattle.std.proofs.lemmas.Bool.{cases_Bool, cases_eq, cases_lt, ne_eqb, le-leb, lt-leb, leb-false}
+use Rattle.std.proofs.lemmas.Bool.{cases_Bool, cases_lt, ne_eqb, le-leb, lt-leb, leb-false}
 use Rattle.cobs.specs.Grammar.{HasNoZero}
 use Rattle.cobs.specs.Piece.{last_part, missing, output, parts, parts_after}
 use Rattle.cobs.specs.Overwritten.{overwritten}
@@ -44,13 +44,13 @@ pub record Quiet (old new : List ℕ) (phase : Phase) (p : List ℕ) : Type 0 wh
 going : (xs buffer new : List ℕ) (phase phase' : Phase) → phase ≢ Overlong → FeedsQuietly buffer phase xs new phase' → phase' ≢ Overlong
 going [] buffer new phase phase' some f = grind arith
 going (x ∷ xs) buffer new phase phase' some f =
-    going xs (next_buffer buffer phase x) new (next_phase (length buffer) phase x) phase' (λ over. grind (arith, cases_eq, ne_eqb)) f.1
+    going xs (next_buffer buffer phase x) new (next_phase (length buffer) phase x) phase' (λ over. grind (arith, ne_eqb)) f.1
 
 -- so the output fits
 fits-by : (p : List ℕ) (n : ℕ) → phase_after p n ≢ Overlong → length (output p) ≤ n
 unfolding phase_after
 fits-by [] n some = omega (arith, ap length output-nil)
-fits-by (c ∷ p) n some = grind (arith, cases_lt, lt-leb)
+fits-by (c ∷ p) n some = grind (arith, lt-leb)
 
 pub quiet : (p old new : List ℕ) (phase : Phase) → HasNoZero p → FeedsQuietly old Idle p new phase → Quiet old new phase p
 quiet p old new phase none f =
@@ -69,11 +69,11 @@ quiet p old new phase none f =
 long-by : (p : List ℕ) (n : ℕ) → Overlong ≡ phase_after p n → n < length (output p)
 unfolding phase_after
 long-by [] n e = absurd (cc)
-long-by (c ∷ p) n e = grind (arith, cases_Bool, leb-false)
+long-by (c ∷ p) n e = grind (arith, leb-false)
 
 full-by : (p : List ℕ) (n x : ℕ) → x ≢ 0 → length (output p) ≤ n → next_phase n (phase_after p n) x ≡ Overlong → n ≤ length (output p)
 unfolding phase_after
-full-by [] n x nz fits e = grind (arith, ne_eqb)
+full-by [] n x nz fits e = grind arith
 full-by (c ∷ p) n x nz fits e = grind (arith, ne_eqb, le-leb, cases_Bool, leb-false)
 
 -- these are the length of the output of p, and the missing bytes of its last part
@@ -84,16 +84,16 @@ Counts p count left = (count ≡ length (output p)) × (left ≡ missing (last_p
 at-by : (p : List ℕ) (n : ℕ) (going full : Bool) (left count : ℕ) → cond going (phase_with full left count) Overlong ≡ phase_after p n → length (output p) ≤ n → Counts p count left
 unfolding phase_after last_part output parts parts_after
 at-by [] n going full left count e fits = grind arith
-at-by (c ∷ p) n going full left count e fits = grind (arith, le-leb)
+at-by (c ∷ p) n going full left count e fits = grind arith
 
 within-by : (p : List ℕ) (n : ℕ) (full : Bool) (left count : ℕ) → Within full left count ≡ phase_after p n → length (output p) ≤ n
     → Counts p count left
 unfolding phase_after
 within-by [] n full left count e fits = absurd (cc)
-within-by (c ∷ p) n full left count e fits = grind (arith, le-leb)
+within-by (c ∷ p) n full left count e fits = grind arith
 
 pub quiet-within : {old new p : List ℕ} {full : Bool} {left count : ℕ} → Quiet old new (Within full left count) p → Counts p count left
-quiet-within s = within-by _ _ _ _ _ s.after.phased.phase_is (omega (arith, s.len, s.fits))
+quiet-within s = within-by _ _ _ _ _ s.after.phased.phase_is (omega (arith, s.fits))
 
 module _ (old new p : List ℕ) (phase : Phase) (s : Quiet old new phase p) where
   pub quiet-written : new ≡ overwritten old (output p)
@@ -113,4 +113,4 @@ module _ (old new p : List ℕ) (phase : Phase) (s : Quiet old new phase p) wher
 
   -- the phase of the decoder
   pub quiet-at : (inner : UnbufferedDecoder) → phase_of inner ≡ phase → Counts p inner.written inner.missing
-  quiet-at inner is = at-by p (length new) (eqb inner.too_long 0) (eqb inner.joint 0) inner.missing inner.written (is ∙ s.after.phased.phase_is) (omega (arith, s.len, s.fits))
+  quiet-at inner is = at-by p (length new) (eqb inner.too_long 0) (eqb inner.joint 0) inner.missing inner.written (is ∙ s.after.phased.phase_is) (omega (arith, s.fits))

@@ -1,7 +1,7 @@
 -- The first piece of a source, read byte by byte into a buffer: `IsRead` says how far. A byte that has room keeps it
 -- (`read-byte`, `read-full`, `read-zero`); one without room, a zero or the source's end is the last (`Ended`).
 use Rattle.std.proofs.Common.{◌≡◌, ◌≢◌, ◌∙◌, ◌+◌, ◌-◌, ◌<◌, ◌≤◌, ℕ, zero, suc, Bool, true, false, eqb, List, [], ◌∷◌, length, take, drop, get_or, set, min, Option, Some, None, refl, ap, arith, length-drop, length-set}
-use Rattle.std.proofs.lemmas.Bool.{cases_eq, le-ltb, lt-ltb, ne_eqb}
+use Rattle.std.proofs.lemmas.Bool.{le-ltb, lt-ltb, ne_eqb}
 use Rattle.std.proofs.lemmas.List.{drop-drop, drop_more, get_or-drop}
 use Rattle.cobs.specs.Decode.{first_output, leading_zeros}
 use Rattle.cobs.specs.Feed.{Overlong, Phase, Within}
@@ -35,7 +35,7 @@ Ended source old new result = record { answer : result ≡ end_of_first source (
 -- one byte, fed
 one : (dest : List ℕ) (phase : Phase) {dest' : List ℕ} {b : ℕ} {full : Bool} {left count : ℕ} → b ≢ 0 → dest' ≡ next_buffer dest phase b → Within full left count ≡ next_phase (length dest) phase b
     → FeedsQuietly dest phase (b ∷ []) dest' (Within full left count)
-one dest phase {dest'} {b} other is next = grind (arith, ne_eqb)
+one dest phase {dest'} {b} other is next = grind arith
 
 -- after the leading zeros there is a code
 pub first-code : (source : List ℕ) (start : ℕ) → start ≡ leading_zeros source → start < length source → get_or source start 0 ≢ 0
@@ -43,7 +43,7 @@ first-code source start is more e = grind (arith, leading_zeros-stop, get_or-dro
 
 -- the first code is read
 pub read-first : (source old : List ℕ) (start : ℕ) → start ≡ leading_zeros source → start < length source → IsRead source old (start + 1) old (eqb (get_or source start 0) 255) (get_or source start 0 - 1) 0
-read-first source old start is more = grind (arith, length-drop, leading_zeros-stop, head_some, ne_eqb, drop_more, first-code)
+read-first source old start is more = grind (arith, leading_zeros-stop, head_some, ne_eqb, drop_more, first-code)
 
 -- a source that has only zeros
 pub no-piece : (source old : List ℕ) (start : ℕ) → start ≡ leading_zeros source → start ≡ length source → Ended source old old None
@@ -54,7 +54,7 @@ open-byte : (new : List ℕ) (full : Bool) (left written byte : ℕ) → byte �
     → (next_buffer new (Within full left written) byte ≡ set new written byte)
     × (next_phase (length new) (Within full left written) byte ≡ grows (length new) full (left - 1) written)
 open-byte new full zero written byte other some = absurd (some refl)
-open-byte new full (suc left) written byte other some = grind (arith, ne_eqb)
+open-byte new full (suc left) written byte other some = grind arith
 
 module _ {source old new : List ℕ} {at left written : ℕ} {full : Bool} (s : IsRead source old at new full left written) where
   abbrev piece : List ℕ
@@ -77,7 +77,7 @@ module _ {source old new : List ℕ} {at left written : ℕ} {full : Bool} (s : 
       let w = whole s.front at-stop in
       let long = whole-count s.front at-stop in
       let counts = quiet-within w in
-      grind (arith, cases_eq, ended-by, piece, outcome_of_none_missing, outcome_of_some_missing, quiet-written)
+      grind (arith, ended-by, piece, outcome_of_none_missing, outcome_of_some_missing, quiet-written)
 
   -- another byte
   module _ (more : at < length source) (other : get_or source at 0 ≢ 0) where
@@ -103,7 +103,7 @@ module _ {source old new : List ℕ} {at left written : ℕ} {full : Bool} (s : 
 
     -- the phase is `Overlong` after a byte that adds to a full buffer
     no-room : (left ≡ 0 → full ≡ false) → length new ≤ written → next_phase (length new) (Within full left written) byte ≡ Overlong
-    no-room adds past = grind (arith, cases_eq, open-byte, ne_eqb, le-ltb)
+    no-room adds past = grind (arith, open-byte, ne_eqb, le-ltb)
 
     -- one that adds a byte to the output, of the block or the zero before a code, for which there is no room
     pub over : (left ≡ 0 → full ≡ false) → length new ≤ written → {count : ℕ} → count ≡ min (length source) (at + 1 + length (head (drop (at + 1) source)) + 1)

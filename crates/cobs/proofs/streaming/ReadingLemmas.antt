@@ -1,8 +1,8 @@
 -- Reads, one after another, and the first piece that ends in the bytes they gave: by `StreamLemmas`, one read at a time.
-use Rattle.std.proofs.Common.{◌≡◌, ◌≢◌, ℕ, ◌+◌, ◌-◌, ◌<◌, ◌≤◌, Bool, true, false, leb, List, [], ◌∷◌, ◌++◌, length, take, drop, refl, sym, ap, ◌∙◌, arith, append_assoc, length-append, length-take, length-drop, take_at, ◌↔◌, Result, Some, None, Ok, Err}
+use Rattle.std.proofs.Common.{◌≡◌, ◌≢◌, ℕ, ◌+◌, ◌-◌, ◌<◌, ◌≤◌, Bool, true, false, List, [], ◌∷◌, ◌++◌, length, take, drop, refl, sym, ap, ◌∙◌, arith, append_assoc, length-append, length-take, length-drop, take_at, ◌↔◌, Result, Some, None, Ok, Err}
 use Rattle.std.specs.List.{All}
 use Rattle.std.proofs.lemmas.List.{append-nil, nil_from_length, take_all, take-append-le, take-append-drop, drop-take, drop-drop, flat_map_more, length_push, same_from_push}
-use Rattle.std.proofs.lemmas.List.Elements.{All-nil, All-push, All-take, All-head}
+use Rattle.std.proofs.lemmas.List.Elements.{All-push, All-take, All-head}
 use Rattle.std.proofs.lemmas.Grind.{flat_map-append, common_steps}
 use Rattle.std.proofs.Math.Logic.{∥∥₁_elim}
 use Rattle.std.proofs.Math.Bool.{Bool-set}
@@ -81,7 +81,7 @@ not_idle Overlong = true
 
 nonempty_phase : (p : List ℕ) (n : ℕ) → is_nonempty p ≡ not_idle (phase_after p n)
 unfolding phase_after not_idle
-nonempty_phase p n = grind (arith, leb, not_idle)
+nonempty_phase p n = grind (arith, not_idle)
 
 -- a flag that is right after some front is right after each front that the decoder has taken
 pub HasTaken-any : (buffer : List ℕ) (phase : Phase) (flag : Bool) (q : List ℕ) → ∥ ((p : List ℕ) × DecoderHasTaken buffer phase flag p) ∥₁ → DecoderAfter buffer phase q → DecoderHasTaken buffer phase flag q
@@ -125,7 +125,7 @@ module _ (front : List ℕ) (n : ℕ) (reads : List Read) (gave : All GaveBytes 
       let within : length earlier ≤ length reads = omega (arith, long, length-append reads more) in
       let same : take (length earlier) reads ≡ earlier
       = sym (take-append-le (length earlier) reads more within) ∙ ap (take (length earlier)) e ∙ take_at earlier (read ∷ later) (length earlier) refl in
-      rw same at (called_after (length earlier) (omega (arith, long)))
+      rw same at (called_after (length earlier) (omega arith))
 
 -- A CALL THAT GOES ON
 
@@ -144,7 +144,7 @@ pub record Going {S : Type 0} (step : S → Read → S → Type 0) (from to : S)
 pub Going-start : {S : Type 0} (step : S → Read → S → Type 0) (source : S) (reader₀ reader : ReaderState) (unfinished : Bool)
     → ((p : List ℕ) → ReaderAfter reader₀ p → AtStreamEnd (p ++ reader₀.kept) reader × (unfinished ≡ is_nonempty (unended (p ++ reader₀.kept))))
     → length reader.buffer ≡ length reader₀.buffer → Going step source source reader₀ reader unfinished 0
-Going-start step source reader₀ reader unfinished h len = grind (arith, All-nil, append-nil)
+Going-start step source reader₀ reader unfinished h len = grind (arith, append-nil)
 
 module _ {S : Type 0} {step : S → Read → S → Type 0} {from to : S} {reader₀ reader : ReaderState} {unfinished : Bool} {count : ℕ} where
   -- no piece has ended
@@ -263,7 +263,7 @@ module _ {S : Type 0} {step : S → Read → S → Type 0} {from to to' : S} {re
 
 -- the bytes of a chunk that a read gave aren't none
 pub front_nonempty : (xs : List ℕ) (n : ℕ) → n ≤ length xs → n ≢ 0 → take n xs ≢ []
-front_nonempty xs n within some = grind (arith, length-take)
+front_nonempty xs n within some = grind arith
 
 -- the rest of them after the first
 pub front_rest : (xs : List ℕ) (n count : ℕ) → count ≤ n → drop count (take n xs) ≡ take (n - count) (drop count xs)

@@ -1,10 +1,10 @@
--- A stream so far: the invariant of a loop that feeds one byte after another (`TakesBytes`), for one byte by `Feeds` and for more
--- by `SoFar-more`.
+-- The bytes of a stream that were fed so far, one after another (`TakesBytes`), with the outcomes of the pieces that
+-- ended in them: for no byte, for one byte (by `Feeds`), and for more bytes after those so far (`takes-more`).
 use Rattle.std.proofs.Common.{◌≡◌, ◌≢◌, ℕ, zero, suc, ◌+◌, ◌-◌, ◌<◌, ◌≤◌, List, [], ◌∷◌, ◌++◌, length, take, drop, refl, sym, ap, ◌∙◌, arith, append_assoc, length-append, length-take, length-drop, map, inl, inr, ◌⊎◌, Option, Some, None, Result, Ok, Err, cond, eqb}
 use Rattle.std.specs.List.{Contains}
 use Rattle.std.proofs.lemmas.List.{append-nil, nil_from_length, length-map, take_rest, take_all, take-append-drop}
 use Rattle.std.proofs.lemmas.List.Elements.{All-nil, All-cons, All-append, Contains-push_cases, Contains-append_cases}
-use Rattle.std.proofs.lemmas.Bool.{leb-true, cases_eq, eq-eqb, ne_eqb}
+use Rattle.std.proofs.lemmas.Bool.{leb-true, eq-eqb, ne_eqb}
 use Rattle.std.proofs.Math.Seq.{take-add}
 use Rattle.std.proofs.lemmas.Grind.{common_steps}
 use Rattle.cobs.specs.Grammar.{HasNoZero}
@@ -17,10 +17,6 @@ use Rattle.cobs.specs.declared.error.DecodeError.{DecodeError}
 use Rattle.cobs.proofs.decoding.OutcomeLemmas.{outcome_says}
 use Rattle.cobs.proofs.streaming.FeedLemmas.{DecoderAfter-idle}
 use Rattle.cobs.proofs.format.StreamLemmas.{outcomes_at, outcomes_at-nonzero, stream_outcomes-append, stream_outcomes-no_zero, stream_outcomes-push_piece, unended-append, unended-no_zero, unended-push_piece}
-
--- from a buffer and a phase before, these bytes led to a buffer, a phase and these outcomes
-abbrev pub SoFar : List ℕ → Phase → List ℕ → Phase → List ℕ → List Outcome → Type 0
-SoFar buffer₀ phase₀ buffer phase done found = TakesBytes buffer₀ phase₀ done found buffer phase
 
 -- WHAT IS REPORTED AT A ZERO
 
@@ -72,8 +68,8 @@ FeedsEach-append [] more buffer₀ buffer buffer' phase₀ phase phase' f g = gr
 FeedsEach-append (byte ∷ done) more buffer₀ buffer buffer' phase₀ phase phase' f g = grind (arith, (FeedsEach-append done more f.1 buffer buffer' f.2 phase phase' f.4 g))
 
 -- before any byte
-pub SoFar-start : (buffer : List ℕ) (phase : Phase) → SoFar buffer phase buffer phase [] []
-SoFar-start buffer phase = grind (arith, append-nil, unended-no_zero, stream_outcomes-no_zero)
+pub takes-nothing : (buffer : List ℕ) (phase : Phase) → TakesBytes buffer phase [] [] buffer phase
+takes-nothing buffer phase = grind (arith, append-nil, unended-no_zero, stream_outcomes-no_zero)
 
 -- A BYTE ALONE
 
@@ -81,18 +77,18 @@ module _ {buffer buffer' : List ℕ} {phase phase' : Phase} {byte : ℕ} {result
   -- its result reports the outcome of the piece that it ends
   reported_byte : (p : List ℕ) → DecoderAfter buffer phase p → reported_by byte result buffer' ≡ outcomes_at p byte (length buffer)
   unfolding result_for result_at_end outcome_of
-  reported_byte p h = grind (arith, cases_eq, eq-eqb, ne_eqb, take_all, leb-true, outcomes_at-nonzero)
+  reported_byte p h = grind (arith, eq-eqb, ne_eqb, take_all, leb-true, outcomes_at-nonzero)
 
   alike_byte : (p : List ℕ) → PhaseAfter (length buffer) phase p → AreAlikeAtFirst (reported_by byte result buffer') (outcomes_at p byte (length buffer))
   unfolding result_for result_at_end outcome_of
-  alike_byte p h = grind (arith, cases_eq, eq-eqb, ne_eqb, length-take, leb-true, outcomes_at-nonzero)
+  alike_byte p h = grind (arith, eq-eqb, ne_eqb, length-take, leb-true, outcomes_at-nonzero)
 
   pub TakesBytes-byte : TakesBytes buffer phase (byte ∷ []) (reported_by byte result buffer') buffer' phase'
   TakesBytes-byte = grind (arith, unended-push_piece, reported_byte, stream_outcomes-push_piece, alike_byte, Contains-push_cases, DecoderAfter-idle)
 
 -- if the phase at the start is that of a decoder that took the front p, then the phase now is that of a decoder that took
 -- the unended bytes of p ++ done
-pub phase_so_far : {buffer₀ buffer : List ℕ} {phase₀ phase : Phase} {done : List ℕ} {found : List Outcome} → SoFar buffer₀ phase₀ buffer phase done found
+pub phase_so_far : {buffer₀ buffer : List ℕ} {phase₀ phase : Phase} {done : List ℕ} {found : List Outcome} → TakesBytes buffer₀ phase₀ done found buffer phase
     → (p : List ℕ) → PhaseAfter (length buffer₀) phase₀ p → PhaseAfter (length buffer) phase (unended (p ++ done))
 phase_so_far {buffer₀} {buffer} {phase₀} {phase} {done} s p h = grind arith
 
@@ -107,13 +103,14 @@ outcomes_more p done more n = grind (arith, append_assoc, stream_outcomes-append
 
 module _ {buffer₀ buffer buffer' : List ℕ} {phase₀ phase phase' : Phase} {done more : List ℕ} {found stated : List Outcome} where
   -- the outcomes of the later bytes, after the unended bytes so far
-  reported_more : SoFar buffer₀ phase₀ buffer phase done found → TakesBytes buffer phase more stated buffer' phase' → (p : List ℕ) → DecoderAfter buffer phase (unended (p ++ done))
+  reported_more : TakesBytes buffer₀ phase₀ done found buffer phase → TakesBytes buffer phase more stated buffer' phase' → (p : List ℕ) → DecoderAfter buffer phase (unended (p ++ done))
       → stated ≡ stream_outcomes (unended (p ++ done) ++ more) (length buffer₀)
   reported_more s t p w = grind arith
 
   -- bytes taken after those so far
-  pub SoFar-more : SoFar buffer₀ phase₀ buffer phase done found → TakesBytes buffer phase more stated buffer' phase' → SoFar buffer₀ phase₀ buffer' phase' (done ++ more) (found ++ stated)
-  SoFar-more s t = record {
+  pub takes-more : TakesBytes buffer₀ phase₀ done found buffer phase → TakesBytes buffer phase more stated buffer' phase'
+      → TakesBytes buffer₀ phase₀ (done ++ more) (found ++ stated) buffer' phase'
+  takes-more s t = record {
     len = t.len ∙ s.len;
     feeds = FeedsEach-append done more buffer₀ buffer buffer' phase₀ phase phase' s.feeds t.feeds;
     phased = λ p h. rw (unended_more p done more, ← s.len) (t.phased _ (phase_so_far s p h));
@@ -146,13 +143,13 @@ piece_count bytes i end count within t = grind (arith, common_steps, length-appe
 
 module _ {buffer₀ buffer buffer' : List ℕ} {phase₀ phase phase' : Phase} {found : List Outcome} (bytes : List ℕ) (i : ℕ) where
   -- no piece ends in them
-  pub SoFar-all : SoFar buffer₀ phase₀ buffer phase (take i bytes) found → TakesPiece buffer phase (take (length bytes - i) (drop i bytes)) None buffer' phase' → SoFar buffer₀ phase₀ buffer' phase' bytes found
-  SoFar-all s t = rw (append-nil found, take-append-drop i bytes) at (SoFar-more s (rw (take_rest bytes i) at t.takes))
+  pub takes-all : TakesBytes buffer₀ phase₀ (take i bytes) found buffer phase → TakesPiece buffer phase (take (length bytes - i) (drop i bytes)) None buffer' phase' → TakesBytes buffer₀ phase₀ bytes found buffer' phase'
+  takes-all s t = rw (append-nil found, take-append-drop i bytes) at (takes-more s (rw (take_rest bytes i) at t.takes))
 
   -- a piece ends in them after that many
-  module _ (end : PieceEnd) (count : ℕ) (s : SoFar buffer₀ phase₀ buffer phase (take i bytes) found) (t : TakesPiece buffer phase (take (length bytes - i) (drop i bytes)) (Some (end, count)) buffer' phase') where
-    pub SoFar-piece : SoFar buffer₀ phase₀ buffer' phase' (take (i + count) bytes) (found ++ outcome_at end buffer' ∷ [])
-    SoFar-piece = rw (take-add i count bytes) (SoFar-more s (rw (take_rest bytes i) at t.takes))
+  module _ (end : PieceEnd) (count : ℕ) (s : TakesBytes buffer₀ phase₀ (take i bytes) found buffer phase) (t : TakesPiece buffer phase (take (length bytes - i) (drop i bytes)) (Some (end, count)) buffer' phase') where
+    pub takes-piece : TakesBytes buffer₀ phase₀ (take (i + count) bytes) (found ++ outcome_at end buffer' ∷ []) buffer' phase'
+    takes-piece = rw (take-add i count bytes) (takes-more s (rw (take_rest bytes i) at t.takes))
 
     -- so the stream has an outcome
     pub outcome_there : (p : List ℕ) → PhaseAfter (length buffer₀) phase₀ p → stream_outcomes (p ++ bytes) (length buffer₀) ≡ [] → ⊥
@@ -161,5 +158,5 @@ module _ {buffer₀ buffer buffer' : List ℕ} {phase₀ phase phase' : Phase} {
         let whole : stream_outcomes (p ++ bytes) n ≡ stream_outcomes (p ++ _) n ++ stream_outcomes (unended (p ++ _) ++ drop (i + count) bytes) n
         = ap (λ (x : List ℕ). stream_outcomes (p ++ x) n) (sym (take-append-drop (i + count) bytes)) ∙ outcomes_more p _ (drop (i + count) bytes) n in
         let nothing : stream_outcomes (p ++ _) n ≡ [] = left_nothing _ _ (sym whole ∙ none) in
-        let nil : found ++ outcome_at end buffer' ∷ [] ≡ [] = alike-nil _ (rw nothing at (SoFar-piece.alike p h)) in
-        grind (arith, length-append)
+        let nil : found ++ outcome_at end buffer' ∷ [] ≡ [] = alike-nil _ (rw nothing at (takes-piece.alike p h)) in
+        grind arith

@@ -3,7 +3,7 @@
 use Rattle.std.proofs.Common.{◌≡◌, ◌≢◌, ℕ, zero, suc, ◌+◌, ◌-◌, ◌<◌, ◌≤◌, eqb, List, [], ◌∷◌, ◌++◌, length, take, drop, refl, sym, ◌∙◌, arith, length-take-le, length-drop, replicate, take-append-drop, take_all}
 use Rattle.std.proofs.lemmas.List.{append-nil, drop_all, drop-drop, length-replicate, take_rest, take-append-drop}
 use Rattle.std.proofs.Math.Seq.{drop-append_seam, take-add, take-append_seam}
-use Rattle.std.proofs.lemmas.Bool.{ne_eqb, cases_eq}
+use Rattle.std.proofs.lemmas.Bool.{ne_eqb}
 use borrow.Rule.Slice.PartMut.{put_mid}
 use Rattle.std.proofs.lemmas.Grind.{common_steps}
 use Rattle.cobs.specs.Grammar.{HasNoZero}
@@ -41,7 +41,7 @@ copied_put at n s dest ys part xs is same long = grind (arith, part_put)
 
 module _ (base : ℕ) (buffer xs : List ℕ) (room : base + length xs ≤ length buffer) where
   behind : drop base (over base buffer xs) ≡ xs ++ drop (base + length xs) buffer
-  behind = let l = length-take-le base buffer (omega arith) in grind (arith, over, drop-append_seam)
+  behind = let l = length-take-le base buffer (omega arith) in grind (arith, drop-append_seam)
 
   -- written over by as many bytes
   over-over : (ys : List ℕ) → length ys ≡ length xs → put_mid base (base + length xs - base) (over base buffer xs) ys ≡ over base buffer ys
@@ -49,7 +49,7 @@ module _ (base : ℕ) (buffer xs : List ℕ) (room : base + length xs ≤ length
 
 -- what was copied is there
 pub copied-there : (at len : ℕ) (before dest xs : List ℕ) → at + len ≤ length before → length xs ≡ len → dest ≡ take at before ++ (xs ++ drop (at + len) before) → take len (drop at dest) ≡ xs
-copied-there at len before dest xs room long is = grind (arith, common_steps, over, behind, take-append_seam)
+copied-there at len before dest xs room long is = grind (arith, over, behind, take-append_seam)
 
 -- a code of the block whose `joint` is this: a full one, or another
 abbrev pub code_by : ℕ → ℕ
@@ -58,7 +58,7 @@ code_by (suc joint) = 1
 
 pub code_by-full : (joint : ℕ) → eqb joint 0 ≡ eqb (code_by joint) 255
 code_by-full zero = refl
-code_by-full (suc joint) = grind (arith, ne_eqb)
+code_by-full (suc joint) = grind arith
 
 full_by : (joint : ℕ) → code_by joint ≡ 255 → joint ≡ 0
 full_by zero is = refl
@@ -80,7 +80,7 @@ record IsSpan (inner : UnbufferedDecoder) (len : ℕ) (before xs : List ℕ) : T
 
 -- the phase, by the code of the open block in place of `joint`
 block-phase : (inner : UnbufferedDecoder) → inner.too_long ≡ 0 → (inner.joint ≡ 0 → 0 < inner.missing) → phase_of inner ≡ Within (eqb (code_by inner.joint) 255) inner.missing inner.written
-block-phase inner going full = grind (arith, cases_eq, phase_with-begun, ne_eqb, code_by-full)
+block-phase inner going full = grind (arith, phase_with-begun, ne_eqb, code_by-full)
 
 -- they are written with a zero over each code; `joint` is set for the last code
 module _ {inner : UnbufferedDecoder} {len : ℕ} {before xs : List ℕ} (s : IsSpan inner len before xs) (joint : ℕ) {ys : List ℕ} {code left : ℕ}
@@ -88,12 +88,12 @@ module _ {inner : UnbufferedDecoder} {len : ℕ} {before xs : List ℕ} (s : IsS
   open_fed : FeedsQuietly before (phase_of inner) xs (over inner.written before ys) (phase_of (moved_on inner len left joint))
   open_fed =
       let fed = fed_walked xs before (code_by inner.joint) inner.missing inner.written s.nonzero
-      (λ e. omega (arith, s.long, s.full (full_by inner.joint e))) (λ h. omega (arith, s.long, s.few (omega (arith, s.long)))) (omega (arith, s.long, s.room)) in
+      (λ e. omega (arith, s.long, s.full (full_by inner.joint e))) (λ h. omega (arith, s.long, s.few (omega arith))) (omega (arith, s.long, s.room)) in
       grind (arith, block-phase, phase_with-begun)
 
   -- written over a copy of them
   written_over : (dest : List ℕ) → dest ≡ over inner.written before xs → put_mid inner.written (inner.written + len - inner.written) dest ys ≡ over inner.written before ys
-  written_over dest is = let room = s.room in let long = s.long in grind (arith, over, over-over, length-walked, code_by)
+  written_over dest is = let room = s.room in let long = s.long in grind (arith, over-over, length-walked, code_by)
 
 -- bytes of the open block
 pub block_fed : (inner : UnbufferedDecoder) (run : ℕ) (dest bytes new : List ℕ) → inner.too_long ≡ 0 → run ≤ inner.missing → inner.written + run ≤ length dest → run ≤ length bytes
@@ -122,13 +122,13 @@ row_fed n inner dest bytes new some few going none due room ones is =
     let long : length (replicate {A = ℕ} n 1) ≡ n = length-replicate {A = ℕ} n 1 in
     let s : IsSpan inner n dest (replicate n 1)
     = record { room = room; long = long; going = going; full = λ e. absurd (due e); nonzero = ones-nonzero n; some = some; few = λ _. few } in
-    let same = walked-any 1 code 0 (replicate n 1) (omega (arith, long)) in
+    let same = walked-any 1 code 0 (replicate n 1) (omega arith) in
     let fed = open_fed s inner.joint {ys = replicate n 0} {code = 1} {left = 0} (grind (arith, row_ones)) (ne_eqb inner.joint 0 due) in
     grind (arith, length-replicate)
 
 -- what `joint_after` returns for a code
 pub joint-is : (code joint : ℕ) → (code ≡ 255 → joint ≡ 0) → (code ≢ 255 → joint ≡ 1) → eqb joint 0 ≡ eqb code 255
-joint-is code joint full other = grind (arith, cases_eq, ne_eqb)
+joint-is code joint full other = grind (arith, ne_eqb)
 
 -- bytes that were copied or moved to the end of the output
 module _ (inner : UnbufferedDecoder) (len : ℕ) (dest : List ℕ) (nz : HasNoZero (take len (drop inner.written dest))) (before xs : List ℕ) (room : inner.written + len ≤ length before) (long : length xs ≡ len)
@@ -158,7 +158,7 @@ module _ (inner : UnbufferedDecoder) (len : ℕ) (dest : List ℕ) (nz : HasNoZe
   -- no code is among them: they stay as they are
   pub kept : len ≤ inner.missing → FeedsQuietly before (phase_of inner) xs dest (phase_of (moved_on inner len (inner.missing - len) inner.joint))
   kept most =
-      let all : take len xs ≡ xs = take_all len xs (omega (arith, long)) in
+      let all : take len xs ≡ xs = take_all len xs (omega arith) in
       rw all at (block_fed inner len before xs dest going most room (omega (arith, long)) (rw all nonzero) (rw all is))
 
   -- a code is among them: a zero was written over each code

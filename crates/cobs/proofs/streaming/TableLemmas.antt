@@ -1,9 +1,9 @@
 -- The table of `DecoderState` agrees with the grammar and with the machine of `Step`. By `PieceLemmas`, with one case
 -- for each state.
 use Rattle.std.proofs.Common.{◌≡◌, ◌≢◌, ℕ, zero, suc, ◌-◌, ◌<◌, ◌+◌, ◌⊎◌, ◌↔◌, Bool, cond, eqb, Some, List, [], ◌∷◌, ◌++◌, length, All, Ok, Err, refl, arith}
-use Rattle.std.proofs.lemmas.Bool.{cases_lt, eqb-true, ne_eqb, cases_Bool}
+use Rattle.std.proofs.lemmas.Bool.{eqb-true, ne_eqb, cases_Bool}
 use Rattle.std.proofs.lemmas.List.{append-nil}
-use Rattle.std.proofs.lemmas.List.Elements.{All-nil, All-push}
+use Rattle.std.proofs.lemmas.List.Elements.{All-push}
 use Rattle.std.proofs.lemmas.Grind.{common_steps}
 use Rattle.cobs.specs.Grammar.{HasNoZero, Reads}
 use Rattle.cobs.specs.Piece.{parts, parts_after, last_part, is_whole, output}
@@ -24,10 +24,10 @@ inside full left = cond full (GrabChain left) (Grab left)
 
 -- the state after a piece, by its last part; and after a code that begins a part
 state_after-is : (c : ℕ) (q : List ℕ) {full : Bool} {left : ℕ} → EndsIn (c ∷ q) full left → state_after (c ∷ q) ≡ inside full left
-state_after-is c q is = grind (arith, inside)
+state_after-is c q is = grind arith
 
 opened_after : (c : ℕ) (q : List ℕ) (b : ℕ) → last_part (c ∷ q) ≡ b ∷ [] → opened_by b ≡ state_after (c ∷ q)
-opened_after c q b is = grind (arith, state_after-is, eqb-true)
+opened_after c q b is = grind (arith, eqb-true)
 
 -- one more byte inside a piece
 module _ (c : ℕ) (q : List ℕ) (b : ℕ) (some : b ≢ 0) where
@@ -37,11 +37,11 @@ module _ (c : ℕ) (q : List ℕ) (b : ℕ) (some : b ≢ 0) where
 
   data_step : (full : Bool) (left : ℕ) → EndsIn (c ∷ q) full left → output (c ∷ q) ++ data_of (table_result (inside full left) b) ≡ output (c ∷ q ++ b ∷ [])
   data_step full (suc left) is = grind (arith, cases_Bool, ne_eqb, output-push_more (c ∷ q) b)
-  data_step full zero is = grind (arith, cases_Bool, ne_eqb, output-push_next)
+  data_step full zero is = grind (arith, ne_eqb, output-push_next)
 
 -- the state after a byte that is no zero, and the data so far followed by the table's data for this byte
 next_state : (p : List ℕ) (b : ℕ) → b ≢ 0 → table_state (state_after p) b ≡ state_after (p ++ b ∷ [])
-next_state p b h = grind (arith, ne_eqb, opened_after, last_part-one, state_step)
+next_state p b h = grind (arith, opened_after, last_part-one, state_step)
 
 -- without a piece there is no output
 pub output-nil : output [] ≡ []
@@ -49,19 +49,19 @@ unfolding output parts parts_after
 output-nil = refl
 
 next_data : (p : List ℕ) (b : ℕ) → b ≢ 0 → output p ++ data_of (table_result (state_after p) b) ≡ output (p ++ b ∷ [])
-next_data p b h = grind (arith, ne_eqb, append-nil, output-nil, output-one, data_step)
+next_data p b h = grind (arith, append-nil, output-nil, output-one, data_step)
 
 pub StateAfter-step : (state : DecoderState) (p so_far : List ℕ) (b : ℕ) → b < 256 → StateAfter state p so_far → b ≢ 0
     → StateAfter (table_state state b) (p ++ b ∷ []) (so_far ++ data_of (table_result state b))
 StateAfter-step state p so_far b below s some = grind (arith, common_steps, All-push, next_state, next_data)
 
 pub StateAfter-start : StateAfter Idle [] []
-StateAfter-start = grind (arith, All-nil, output-nil)
+StateAfter-start = grind (arith, output-nil)
 
 -- the result for the zero that ends a piece
 at_end : (c : ℕ) (q : List ℕ) → table_result (state_after (c ∷ q)) 0 ≡ cond (is_whole (c ∷ q)) (Ok DataComplete) (Err (InvalidFrame 0))
 unfolding is_whole
-at_end c q = grind (arith, ne_eqb)
+at_end c q = grind arith
 
 -- the zero after p returns `DataComplete` exactly if p is a frame, and the data is then its message
 complete : (p m : List ℕ) → HasNoZero p → All (λ b. b < 256) p → ((table_result (state_after p) 0 ≡ Ok DataComplete) × (output p ≡ m)) ↔ Reads p m
@@ -75,13 +75,13 @@ StateAfter-end state p so_far m s = let h = complete p m s.piece s.bytes in grin
 
 -- the state after a code, or after a zero in place of a code
 coded : (n b count : ℕ) → state_in (cond (eqb b 0) phases.Idle (Within (eqb b 255) (b - 1) count)) ≡ Some (cond (eqb b 0) Idle (opened_by b))
-coded n b count = grind (arith, eqb-true)
+coded n b count = grind arith
 
 returned_by_table : (n : ℕ) (phase : Phase) (b : ℕ) (state : DecoderState) → state_in phase ≡ Some state
     → let stated = table_result state b in
     (next_result n phase b ≡ counted (written_in phase) stated) ⊎ ((next_result n phase b ≡ Err TargetBufTooSmall) × (n < written_in phase + length (data_of stated)))
-returned_by_table n phase b state h = grind (arith, cases_lt)
+returned_by_table n phase b state h = grind arith
 
 -- the machine moves by the table
 pub FeedsByTable-step : (n : ℕ) (phase : Phase) (b : ℕ) → FeedsByTable n phase b (next_result n phase b) (next_phase n phase b)
-FeedsByTable-step n phase b = grind (arith, coded, eqb-true, returned_by_table)
+FeedsByTable-step n phase b = grind (arith, eqb-true, returned_by_table)

@@ -44,7 +44,7 @@ as_piece first bytes {ys} {code} {left} w few nz =
     let v = walked first (first - 1) bytes in
     let some = All-head (λ b. b ≢ 0) first bytes nz in
     let f : FeedsQuietly bytes Idle (first ∷ bytes) (over 0 bytes v.0) (Within (eqb v.1 255) v.2 (0 + length bytes))
-    = let fed = fed_walked bytes bytes first (first - 1) 0 (All-tail (λ b. b ≢ 0) first bytes nz) (λ e. omega arith) (λ h. few) (omega arith) in grind (arith, ne_eqb) in
+    = let fed = fed_walked bytes bytes first (first - 1) 0 (All-tail (λ b. b ≢ 0) first bytes nz) (λ e. omega arith) (λ h. few) (omega arith) in grind arith in
     let q = quiet (first ∷ bytes) bytes (over 0 bytes v.0) (Within (eqb v.1 255) v.2 (0 + length bytes)) nz f in
     let counts = quiet-within q in
     let all : length (output (first ∷ bytes)) ≡ length v.0 = omega (arith, counts.0, length-walked first (first - 1) bytes) in
@@ -79,7 +79,7 @@ module _ (first : ℕ) (bytes : List ℕ) (some : 0 < first) (more : first ≤ l
   marked = set bytes (first - 1) 0
 
   pub behind-code : take (length marked - first) (drop first marked) ≡ drop first bytes
-  behind-code = grind (arith, length-set, length-drop, drop-set-lt, take_all)
+  behind-code = grind (arith, length-drop, drop-set-lt, take_all)
 
   pub next-nonzero : HasNoZero (first ∷ bytes) → HasNoZero (next ∷ drop first bytes)
   next-nonzero nz =

@@ -1,6 +1,6 @@
 //! Functions that go from each code of a piece to the next code: in bytes that were copied, and in the last bytes of a
 //! piece.
-ghost use Rattle.std.specs.Prelude.{◌≡◌, ◌+◌, ◌-◌, ◌<◌, ◌≤◌, ◌∷◌, ◌++◌, ◌↔◌, length, take, drop, false, IsTrue, IfSome, IsSome, List, None, Ok, Err, ℕ};
+ghost use Rattle.std.specs.Prelude.{◌≡◌, ◌+◌, ◌-◌, ◌<◌, ◌≤◌, ◌∷◌, ◌↔◌, length, take, drop, false, IsTrue, IfSome, IsSome, List, None, Ok, Err, ℕ};
 ghost use Rattle.cobs.specs.Grammar.{HasNoZero};
 ghost use Rattle.cobs.specs.Internal.Walk.{walked};
 ghost use Rattle.cobs.specs.Piece.{kept_output, last_part, missing, output};
@@ -123,11 +123,11 @@ pub(crate) fn kept_len(bytes: &[u8], left: usize, sentinel: u8) -> (usize, bool)
     requires left { left ≤ length bytes.now }
     requires nonzero { HasNoZero (xor_each sentinel bytes.now) }
     ensures within { result.0 ≤ length bytes.now }
-    ensures kept { (p : List ℕ) → missing (last_part p) ≡ left
-        → output (p ++ take result.0 (xor_each sentinel bytes.now))
-        ≡ kept_output (p ++ xor_each sentinel bytes.now) }
-    ensures whole { (p : List ℕ) → missing (last_part p) ≡ left
-        → (IsTrue result.1 ↔ (missing (last_part (p ++ xor_each sentinel bytes.now)) ≡ 0)) }
+    // `bytes` are the bytes of the piece `p` from index `start` on.
+    ensures kept { (p : List ℕ) (start : ℕ) → drop start p ≡ xor_each sentinel bytes.now
+        → missing (last_part (take start p)) ≡ left → output (take (start + result.0) p) ≡ kept_output p }
+    ensures whole { (p : List ℕ) (start : ℕ) → drop start p ≡ xor_each sentinel bytes.now
+        → missing (last_part (take start p)) ≡ left → (IsTrue result.1 ↔ (missing (last_part p) ≡ 0)) }
 {
     let mut at = left;
     'by_block: while at < bytes.len() {

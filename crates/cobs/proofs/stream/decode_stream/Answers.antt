@@ -1,14 +1,14 @@
--- The list has the outcomes of the bytes so far (`SoFar`). Each piece that ends adds an outcome (`SoFar-piece`); the
--- last bytes, in which no piece ends, add none (`SoFar-all`).
+-- The list has the outcomes of the bytes so far (`TakesBytes`). Each piece that ends adds an outcome (`takes-piece`); the
+-- last bytes, in which no piece ends, add none (`takes-all`).
 use Rattle.std.proofs.Common.{◌∙◌, refl, arith}
 use Rattle.std.proofs.lemmas.List.{map_push}
 use Rattle.cobs.specs.Messages.{outcome_in}
 use Rattle.cobs.proofs.streaming.FeedLemmas.{DecoderAfter-idle}
-use Rattle.cobs.proofs.streaming.SoFar.{SoFar-start, SoFar-all, SoFar-piece, piece_count, outcome_there}
+use Rattle.cobs.proofs.streaming.SoFar.{takes-nothing, takes-all, takes-piece, piece_count, outcome_there, phase_so_far}
 use Rattle.cobs.proofs.stream.decode_stream.Goals as goal
 
 pub by_piece-init : goal.by_piece-init
-by_piece-init g c = record { within = omega arith; so_far = rw c.new-outcomes.ensures.items (SoFar-start _ _); same_loan = refl }
+by_piece-init g c = record { within = omega arith; so_far = rw c.new-outcomes.ensures.items (takes-nothing _ _); same_loan = refl }
 
 pub returns-in_err-frame_outcome-clause-succeeds : goal.returns-in_err-frame_outcome-clause-succeeds
 returns-in_err-frame_outcome-clause-succeeds g c = λ p h none. absurd (outcome_there _ _ _ _ c.by_piece.invariant.so_far c.in-Some.ensures.takes p h none)
@@ -24,9 +24,9 @@ returns-in_err-push-clause-out_of_memory g c = grind (arith, DecoderAfter-idle)
 
 pub by_piece-preserved : goal.by_piece-preserved
 by_piece-preserved g c = record {
-  within = grind (arith, piece_count);
+  within = grind arith;
   so_far = rw (c.in_ok-push.ensures.items, map_push outcome_in c.by_piece.outcomes.items c.in_ok-frame_outcome.field-0, c.in_ok-frame_outcome.ensures, c.buffer.ensures.value)
-      (SoFar-piece _ _ _ _ c.by_piece.invariant.so_far c.in-Some.ensures.takes);
+      (takes-piece _ _ _ _ c.by_piece.invariant.so_far c.in-Some.ensures.takes);
   same_loan = c.feed_piece.ensures.same_loan ∙ c.by_piece.invariant.same_loan;
 }
 
@@ -34,17 +34,16 @@ pub by_piece-smaller : goal.by_piece-smaller
 by_piece-smaller g c = grind (arith, piece_count)
 
 pub returns-clause-outcomes : goal.returns-clause-outcomes
-returns-clause-outcomes g c = (SoFar-all _ _ c.by_piece.invariant.so_far c.in_default.ensures.takes).outcomes
+returns-clause-outcomes g c = (takes-all _ _ c.by_piece.invariant.so_far c.in_default.ensures.takes).outcomes
 
 pub returns-clause-after : goal.returns-clause-after
-returns-clause-after g c = (SoFar-all _ _ c.by_piece.invariant.so_far c.in_default.ensures.takes).after
+returns-clause-after g c = (takes-all _ _ c.by_piece.invariant.so_far c.in_default.ensures.takes).after
 
 pub returns-clause-alike : goal.returns-clause-alike
-returns-clause-alike g c = (SoFar-all _ _ c.by_piece.invariant.so_far c.in_default.ensures.takes).alike
+returns-clause-alike g c = (takes-all _ _ c.by_piece.invariant.so_far c.in_default.ensures.takes).alike
 
 pub returns-clause-phase_after : goal.returns-clause-phase_after
-returns-clause-phase_after g c =
-    grind (arith, SoFar-all _ _ c.by_piece.invariant.so_far c.in_default.ensures.takes)
+returns-clause-phase_after g c = phase_so_far (takes-all _ _ c.by_piece.invariant.so_far c.in_default.ensures.takes)
 
 pub returns-clause-after_zero : goal.returns-clause-after_zero
-returns-clause-after_zero g c = (SoFar-all _ _ c.by_piece.invariant.so_far c.in_default.ensures.takes).after_zero
+returns-clause-after_zero g c = (takes-all _ _ c.by_piece.invariant.so_far c.in_default.ensures.takes).after_zero

@@ -1,8 +1,8 @@
--- The outcomes of the pieces among the first `at` bytes are in the list (`SoFar`), and the decoder still uses the buffer
+-- The outcomes of the pieces among the first `at` bytes are in the list (`TakesBytes`), and the decoder still uses the buffer
 -- that it was lent before the call (`same_loan`).
 use Rattle.std.proofs.Common.{◌≡◌, ◌≤◌, ◌-◌, length, take}
 use Rattle.cobs.specs.Messages.{outcomes_in}
-use Rattle.cobs.proofs.streaming.SoFar.{SoFar}
+use Rattle.cobs.specs.FeedPiece.{TakesBytes}
 use Rattle.cobs.proofs.stream.decode_stream.Given as goal
 
 abbrev pub invariant-by_piece : goal.invariant-by_piece
@@ -12,7 +12,7 @@ invariant-by_piece g l =
     let loan = g.D.FrameDecoder.loan in
     record {
       within : l.at ≤ length l.bytes;
-      so_far : SoFar (bytes l.fn.decoder) (phase l.fn.decoder) (bytes l.decoder) (phase l.decoder) (take l.at l.bytes) (outcomes_in l.outcomes.items);
+      so_far : TakesBytes (bytes l.fn.decoder) (phase l.fn.decoder) (take l.at l.bytes) (outcomes_in l.outcomes.items) (bytes l.decoder) (phase l.decoder);
       same_loan : loan l.decoder ≡ loan l.fn.decoder;
     }
 

@@ -1,8 +1,7 @@
--- The bytes that are written, followed by the kept output of the remaining bytes, are the kept output of all bytes
--- (`Written`). Within a block, the block's remaining bytes come between the two.
-use Rattle.std.proofs.Common.{◌≡◌, ◌++◌, ◌-◌, ◌<◌, ◌≤◌, ℕ, drop, get_or, take}
-use Rattle.cobs.specs.Piece.{kept_output}
-use Rattle.cobs.proofs.decoding.WrittenLemmas.{Written, whole_left, zero_before}
+-- The first `end` bytes h of the buffer are the frame. Its bytes from `read` on are still to be decoded (`Left`); within
+-- a block, the block's remaining bytes and the bytes after the block (`BlockLeft`).
+use Rattle.std.proofs.Common.{◌-◌, ◌<◌, ◌≤◌, drop, take}
+use Rattle.cobs.proofs.decoding.WrittenLemmas.{BlockLeft, Left}
 use Rattle.cobs.proofs.dec.each.decode_blocks_each.Given as goal
 
 -- the blocks before `read` are decoded
@@ -12,9 +11,7 @@ invariant-by_block l =
     record {
       order : l.written ≤ l.read;
       within : l.read ≤ l.end;
-      below : (i : ℕ) → get_or l.fn.buffer i 0 < 256;
-      whole : whole_left h ≡ whole_left (drop l.read h);
-      written : Written h l.fn.buffer l.buffer l.written (kept_output (drop l.read h));
+      left : Left h l.fn.buffer l.buffer l.written (drop l.read h);
     }
 
 abbrev pub decreases-by_block : goal.decreases-by_block
@@ -27,8 +24,8 @@ invariant-by_byte l =
     record {
       from : l.initial.read ≤ l.read;
       order : l.written < l.read;
-      left : l.read < l.next;
-      written : Written h l.fn.buffer l.buffer l.written (take (l.next - l.read) (drop l.read h) ++ (zero_before l.code (drop l.next h) ++ kept_output (drop l.next h)));
+      inside : l.read < l.next;
+      left : BlockLeft h l.fn.buffer l.buffer l.written (take (l.next - l.read) (drop l.read h)) l.code (drop l.next h);
     }
 
 abbrev pub decreases-by_byte : goal.decreases-by_byte

@@ -1,19 +1,18 @@
 -- The bytes up to the first zero are the head of the buffer (`front_is_head`), so their result is the report
 -- (`in_place_report-decoded`, `in_place_report-rejected`).
 use Rattle.std.proofs.Common.{arith, length-take-le}
-use Rattle.std.proofs.lemmas.Bool.{eqb-false}
 use Rattle.cobs.proofs.decoding.HeadLemmas.{front_is_head}
 use Rattle.cobs.proofs.decoding.OutcomeSteps.{in_place_report-rejected, in_place_report-decoded}
 use Rattle.cobs.proofs.dec.each.decode_in_place_each.Goals as goal
 
 pub returns-in_err-frame_size-clause-returned : goal.returns-in_err-frame_size-clause-returned
-returns-in_err-frame_size-clause-returned c = grind (arith, eqb-false, front_is_head, in_place_report-rejected)
+returns-in_err-frame_size-clause-returned c = grind (arith, front_is_head, in_place_report-rejected)
 
 pub returns-in_err-frame_size-clause-buffer : goal.returns-in_err-frame_size-clause-buffer
 returns-in_err-frame_size-clause-buffer c = grind (arith, front_is_head)
 
 pub returns-clause-returned : goal.returns-clause-returned
-returns-clause-returned c = grind (arith, eqb-false, front_is_head, in_place_report-decoded, length-take-le)
+returns-clause-returned c = grind (arith, front_is_head, in_place_report-decoded, length-take-le)
 
 pub returns-clause-buffer : goal.returns-clause-buffer
 returns-clause-buffer c = grind (arith, front_is_head)

@@ -3,7 +3,6 @@ use Rattle.std.proofs.Common.{arith}
 use Rattle.std.proofs.lemmas.Bool.{eq-eqb, ne_eqb}
 use Rattle.cobs.proofs.streaming.ReadPiece.{ended, first-code, no-piece, over, read-byte, read-first, read-full, read-zero}
 use Rattle.cobs.proofs.dec.each.decode_piece.Goals as goal
-use Rattle.cobs.proofs.dec.each.decode_piece.Goals.{else-by_byte-test, then-by_byte-test+then-byte-eq0}
 
 -- a source of zeros only
 pub returns-then-start-source : goal.returns-then-start-source
@@ -36,6 +35,6 @@ pub returns : goal.returns
 returns c =
     let is = c.ended.ensures in
     elim c.by_byte-test.branch [
-      | else-by_byte-test w ↦ ended c.by_byte.invariant (λ more. absurd (omega (arith, w.by_byte-test.false))) (omega (arith, w.at-is, w.by_byte-test.false, c.by_byte.invariant.within)) is.whole is.broken
-      | then-by_byte-test+then-byte-eq0 w ↦ ended c.by_byte.invariant (λ more. w.if-byte-eq0.true) (omega (arith, w.at-is, w.by_byte-test.true)) is.whole is.broken
+      | goal.else-by_byte-test w ↦ ended c.by_byte.invariant (λ more. absurd (omega arith)) (omega (arith, w.at-is, w.by_byte-test.false, c.by_byte.invariant.within)) is.whole is.broken
+      | goal.then-by_byte-test+then-byte-eq0 w ↦ ended c.by_byte.invariant (λ more. w.if-byte-eq0.true) (omega (arith, w.at-is, w.by_byte-test.true)) is.whole is.broken
     ]

@@ -25,7 +25,7 @@ returns-clause-only c piece m same = grind (arith, decoded_reads, bytes_below, r
 
 pub returns-in_err-report : goal.returns-in_err-report
 returns-in_err-report c =
-    let some : 0 < length c.args.source.now = grind (arith, eqb-false) in
+    let some : 0 < length c.args.source.now = grind arith in
     let is : (error : DecodeError) × (c.decode.result ≡ Err error) × (c.from_residual-in_err-report.result ≡ Err (Decode error)) = search rules in
     let no = decoded-rejected c.args.source.now (length c.deref_mut.result.now) (search rules) is.0 some (sym is.1 ∙ c.decode.ensures.answer) in
     rw is.2 (record {

@@ -27,7 +27,7 @@ returns-clause-only c piece m same = grind (arith, decoded_head_reads, xored_bel
 
 pub returns-in_err-len : goal.returns-in_err-len
 returns-in_err-len c =
-    let some : 0 < length c.args.source.now = grind (arith, eqb-false) in
+    let some : 0 < length c.args.source.now = grind arith in
     let is : (error : DecodeError) × (c.decode_with_sentinel.result ≡ Err error) × (c.from_residual-in_err-len.result ≡ Err (Decode error)) = search rules in
     let long : length c.deref_mut.result.now ≡ length c.args.source.now = search rules in
     let changed = length-map c.args.source.now (λ (b : ℕ). bit_xor b c.args.sentinel) in

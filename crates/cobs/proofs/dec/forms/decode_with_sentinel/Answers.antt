@@ -1,20 +1,22 @@
 -- A short frame is decoded as one span into a local buffer, and any other frame by `decode_blocks`. Each of the two
 -- results is the result for the bytes before the first sentinel (`result_of_sentinel_decode-head`).
 use Rattle.std.proofs.Common.{◌≡◌, ◌<◌, ◌-◌, ℕ, List, Some, Ok, length, take, ap, length-take-le, sym, arith}
-use Rattle.std.proofs.lemmas.Bool.{eqb-true, eqb-false}
+use Rattle.std.proofs.lemmas.Bool.{eqb-true}
 use Rattle.cobs.specs.Overwritten.{overwritten}
 use Rattle.cobs.specs.Decode.{result_of_sentinel_decode}
 use Rattle.cobs.specs.Piece.{kept_output, last_part, missing, output}
 use Rattle.cobs.specs.Sentinel.{xor_each}
 use Rattle.cobs.specs.Stream.{head}
-use Rattle.cobs.proofs.decoding.HeadlineLemmas.{source_reads, source_only, xored_below}
+use Rattle.cobs.proofs.decoding.HeadlineLemmas.{source_clauses, xored_below}
 use Rattle.cobs.proofs.decoding.SourceSteps.{front-head, xor_no_zero, xor_head, result-fits, result_of_sentinel_decode-head, nothing_kept}
 use Rattle.cobs.proofs.decoding.TailLemmas.{whole-kept}
 use Rattle.cobs.proofs.streaming.KeptQuiet.{whole_front, whole_result}
 use Rattle.cobs.proofs.dec.forms.decode_with_sentinel.Goals as goal
 
 pub returns-then-not-has_vectors : goal.returns-then-not-has_vectors
-returns-then-not-has_vectors c = grind (arith, xored_below, source_reads, source_only)
+returns-then-not-has_vectors c =
+    let e = c.decode_head_each.ensures in
+    source_clauses _ _ _ _ e.returned e.buffer (xored_below c.args.sentinel c.args.source.now c.ranges.sentinel.fits c.type_inv.source)
 
 pub returns-then-is_empty-clause-buffer : goal.returns-then-is_empty-clause-buffer
 returns-then-is_empty-clause-buffer c = grind (arith, nothing_kept, eqb-true)
@@ -36,16 +38,11 @@ returns-then-eq c =
     let is : h ≡ head f = front-head source len s e.within d.nonzero e.stop in
     let written : c.copy_from_slice.new.self ≡ output h = grind arith in
     let count = ap length written in
-    let some : 0 < length source = omega (arith, d.some) in
+    let some : 0 < length source = omega arith in
     let returned : Ok (len - 1) ≡ result_of_sentinel_decode f n = grind (arith, whole_result, result-fits, whole-kept, result_of_sentinel_decode-head) in
     let buffer = rw is at (whole_front h c.args.dest.now _ (len - 1) whole written (omega (arith, d.len)) (omega (arith, d.len))) in
     let below = xored_below s source c.ranges.sentinel.fits c.type_inv.source in
-    record {
-      answer = returned;
-      buffer = buffer;
-      reads = source_reads _ _ _ _ returned buffer below;
-      only = source_only _ _ _ _ returned buffer below;
-    }
+    source_clauses _ _ _ _ returned buffer below
 
 pub decode_blocks-requires : goal.decode_blocks-requires
 decode_blocks-requires c = grind (arith, xor_no_zero)
@@ -53,12 +50,7 @@ decode_blocks-requires c = grind (arith, xor_no_zero)
 pub returns : goal.returns
 returns c =
     let f : List ℕ = xor_each c.args.sentinel c.args.source.now in
-    let returned : c.decode_blocks.result ≡ result_of_sentinel_decode f (length c.args.dest.now) = grind (arith, eqb-false, xor_head, result_of_sentinel_decode-head) in
+    let returned : c.decode_blocks.result ≡ result_of_sentinel_decode f (length c.args.dest.now) = grind (arith, xor_head, result_of_sentinel_decode-head) in
     let buffer : c.decode_blocks.new.dest ≡ overwritten c.args.dest.now (kept_output (head f)) = grind (arith, xor_head) in
     let below = xored_below c.args.sentinel c.args.source.now c.ranges.sentinel.fits c.type_inv.source in
-    record {
-      answer = returned;
-      buffer = buffer;
-      reads = source_reads _ _ _ _ returned buffer below;
-      only = source_only _ _ _ _ returned buffer below;
-    }
+    source_clauses _ _ _ _ returned buffer below

@@ -1,20 +1,19 @@
 -- If no byte of the buffer is a zero, except perhaps the last one, the bytes before that zero are the buffer's head
 -- (`short_head`). So the result of `decode_span_in_place` for these bytes is the report (`in_place_report-decoded`).
 use Rattle.std.proofs.Common.{arith, length-take-le}
-use Rattle.std.proofs.lemmas.Bool.{eqb-true, eqb-false}
 use Rattle.cobs.proofs.decoding.HeadLemmas.{front_is_head, head-front, short_head}
 use Rattle.cobs.proofs.decoding.OutcomeLemmas.{head_nonzero, length-head}
 use Rattle.cobs.proofs.decoding.OutcomeSteps.{in_place_report-decoded}
 use Rattle.cobs.proofs.dec.in_place.decode_short_in_place.Goals as goal
 
 pub returns-clause-returned : goal.returns-clause-returned
-returns-clause-returned c = grind (arith, eqb-false, front_is_head, in_place_report-decoded, length-take-le)
+returns-clause-returned c = grind (arith, front_is_head, in_place_report-decoded, length-take-le)
 
 pub returns-clause-buffer : goal.returns-clause-buffer
 returns-clause-buffer c = grind (arith, front_is_head)
 
 pub returns-then-is_empty-clause-taken : goal.returns-then-is_empty-clause-taken
-returns-then-is_empty-clause-taken c short whole = grind (arith, eqb-true, length-head)
+returns-then-is_empty-clause-taken c short whole = grind (arith, length-head)
 
 pub returns-then-not-decode_span_in_place-clause-taken : goal.returns-then-not-decode_span_in_place-clause-taken
 returns-then-not-decode_span_in_place-clause-taken c short whole = grind (arith, short_head, length-head, head-front, head_nonzero)

@@ -2,7 +2,6 @@
 -- is the piece's output. If the last block breaks off, the bytes are put back from a copy that was made before.
 use Rattle.std.proofs.Common.{◌≡◌, ◌≢◌, ◌-◌, ◌<◌, ◌≤◌, ◌∷◌, ◌++◌, ◌∙◌, ℕ, List, Ok, length, take, drop, get_or, set, refl, sym, arith, length-drop, length-take-le, take-append-drop, take_at, drop_at, append-nil, replicate}
 use Rattle.std.proofs.lemmas.List.{drop_more}
-use Rattle.std.proofs.lemmas.List.Elements.{All-cons}
 use borrow.Rule.Slice.PartMut.{put_mid}
 use Rattle.cobs.specs.Decode.{head_result}
 use Rattle.cobs.specs.Grammar.{HasNoZero}
@@ -44,10 +43,10 @@ module _ {old moved : List ℕ} {len : ℕ} (m : Moved old moved len) where
   rest = grind (arith, drop_at, bytes, long)
 
   frame-is : take len old ≡ get_or old 0 0 ∷ bytes
-  frame-is = grind (arith, drop_more)
+  frame-is = grind arith
 
   nonzero : HasNoZero (get_or old 0 0 ∷ bytes)
-  nonzero = grind (arith, All-cons, bytes, xor_each-zero)
+  nonzero = grind (arith, bytes, xor_each-zero)
 
   frame-nonzero : HasNoZero (take len old)
   frame-nonzero = rw frame-is nonzero
@@ -76,7 +75,7 @@ module _ {old moved : List ℕ} {len : ℕ} (m : Moved old moved len) where
       buffer = grind (arith, rest, whole_front, whole, piece, ys-long)
 
 moved : (c : After-move_to_front) → Moved c.args.buffer.now c.move_to_front.new.buffer c.args.len
-moved c = grind (arith, nonzero)
+moved c = grind arith
 
 pub returns-then-not-copy_xored_short-clause-taken : goal.returns-then-not-copy_xored_short-clause-taken
 returns-then-not-copy_xored_short-clause-taken c few nz ends =
@@ -102,8 +101,8 @@ returns-clause-nonzero c _ = frame-nonzero (moved (goal.at.returns-clause-nonzer
 
 pub returns-clause-returned : goal.returns-clause-returned
 returns-clause-returned c _ =
-    returned (moved (goal.at.returns-clause-returned c).After-move_to_front) c.write_zeros_at_codes-left.ensures (omega (arith, c.if-left-ne0.false))
+    returned (moved (goal.at.returns-clause-returned c).After-move_to_front) c.write_zeros_at_codes-left.ensures (omega arith)
 
 pub returns-clause-buffer : goal.returns-clause-buffer
 returns-clause-buffer c _ =
-    buffer (moved (goal.at.returns-clause-buffer c).After-move_to_front) c.write_zeros_at_codes-left.ensures (omega (arith, c.if-left-ne0.false))
+    buffer (moved (goal.at.returns-clause-buffer c).After-move_to_front) c.write_zeros_at_codes-left.ensures (omega arith)

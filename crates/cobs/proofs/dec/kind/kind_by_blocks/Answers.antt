@@ -9,7 +9,7 @@ use Rattle.cobs.proofs.dec.kind.kind_by_blocks.Goals as goal
 
 -- the code of the block at a place
 code_at : (bytes : List ℕ) (read : ℕ) → read < length bytes → get_or (drop read bytes) 0 0 ≡ get_or bytes read 0
-code_at bytes read within = grind (arith, get_or, drop_more)
+code_at bytes read within = grind (arith, drop_more)
 
 pub by_block-init : goal.by_block-init
 by_block-init c = grind (arith, bytes_below)
@@ -34,7 +34,7 @@ pub returns-else-after_full : goal.returns-else-after_full
 returns-else-after_full c =
     let is = code_at c.args.bytes.now c.by_block.read (omega arith) in
     let rest = length-drop c.by_block.read c.args.bytes.now in
-    says c.args.bytes.now Canonical (canonical-kind _ _ _ c.by_block.invariant.1 (omega (arith, rest)) (omega (arith, is, rest)) (λ full one. grind (arith, rest)))
+    says c.args.bytes.now Canonical (canonical-kind _ _ _ c.by_block.invariant.1 (omega arith) (omega (arith, is, rest)) (λ full one. grind (arith, rest)))
 
 pub returns : goal.returns
 returns c = says c.args.bytes.now NotAFrame (broken-kind _ _ _ c.by_block.invariant.1 (λ some. omega (arith, length-drop c.by_block.read c.args.bytes.now)))

@@ -15,7 +15,7 @@ module _ (copied dest : List ℕ) (s : ℕ) (is : dest ≡ xor_each s copied) wh
   long = grind (arith, length-map, bit_xor)
 
   code-is : (i : ℕ) → i < length copied → get_or dest i 0 ≡ bit_xor (get_or copied i 0) s
-  code-is i within = grind (arith, get_or, get_or-map, bit_xor)
+  code-is i within = grind (arith, get_or-map, bit_xor)
 
 pub returns-then-copied-first : goal.returns-then-copied-first
 returns-then-copied-first t c = grind (arith, long, walked-past)
@@ -26,7 +26,7 @@ write_zeros_at_copied-requires t c =
     let dest : List ℕ = c.args.dest.now in
     let same = long c.args.copied.now dest c.args.sentinel c.requires.copied in
     let some : 0 < c.args.first = omega (arith, All-head (λ b. b ≢ 0) c.args.first dest nz) in
-    let is = behind-code c.args.first dest some (omega (arith, same)) in
+    let is = behind-code c.args.first dest some (omega arith) in
     let code = code-is c.args.copied.now dest c.args.sentinel c.requires.copied (c.args.first - 1) (omega (arith, some)) in
     let less : length (drop c.args.first dest) < t = omega (arith, c.decreases, length-drop c.args.first dest) in
     let below = xor_lt 8 (get_or c.args.copied.now (c.args.first - 1) 0) c.args.sentinel (c.type_inv.copied (c.args.first - 1)).fits c.ranges.sentinel.fits in
@@ -38,6 +38,6 @@ returns t c =
     let dest : List ℕ = c.args.dest.now in
     let same = long c.args.copied.now dest c.args.sentinel c.requires.copied in
     let some : 0 < c.args.first = omega (arith, All-head (λ b. b ≢ 0) c.args.first dest c.requires.nonzero) in
-    let code = code-is c.args.copied.now dest c.args.sentinel c.requires.copied (c.args.first - 1) (omega (arith, some)) in
+    let code = code-is c.args.copied.now dest c.args.sentinel c.requires.copied (c.args.first - 1) (omega arith) in
     let is = behind-code c.args.first dest some (omega (arith, same)) in
     walked-next c.args.first dest some (omega (arith, same)) _ _ _ (rw (is, ← code) at c.write_zeros_at_copied.ensures)

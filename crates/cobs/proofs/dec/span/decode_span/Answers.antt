@@ -2,7 +2,7 @@
 -- the output of the piece (`as_piece`).
 use Rattle.std.proofs.Common.{◌≡◌, ◌≢◌, ◌-◌, ◌<◌, ◌≤◌, ◌∷◌, ◌++◌, ◌∙◌, ℕ, List, get_or, bit_xor, arith, length, take, drop, ap, refl, sym, length-drop}
 use Rattle.std.proofs.Math.Seq.{take-append_seam}
-use Rattle.std.proofs.lemmas.List.{drop_more, length-map, take_rest}
+use Rattle.std.proofs.lemmas.List.{length-map, take_rest}
 use Rattle.std.proofs.lemmas.List.Elements.{All-cons, All-drop}
 use Rattle.std.proofs.lemmas.Grind.{common_steps}
 use Rattle.cobs.specs.Grammar.{HasNoZero}
@@ -25,7 +25,7 @@ module _ (source dest rest : List ℕ) (s : ℕ) (some : 0 < length source) (cop
   long = grind (arith, behind-is, length-map, length-drop)
 
   source-is : xor_each s source ≡ bit_xor (get_or source 0 0) s ∷ behind
-  source-is = grind (arith, drop_more, bit_xor, get_or, behind-is)
+  source-is = grind (arith, bit_xor, get_or, behind-is)
 
   -- with a zero over each code, these bytes are the output
   piece : length source ≤ 65 → get_or source 0 0 ≢ s → HasNoZero (xor_each s (take (length source - 1) (drop 1 source))) → {ys : List ℕ} {code left : ℕ} → IsWalked ys code left (bit_xor (get_or source 0 0) s) (bit_xor (get_or source 0 0) s - 1) behind
@@ -49,4 +49,4 @@ pub returns-clause-left : goal.returns-clause-left
 returns-clause-left c = (decoded c).1
 
 pub returns-clause-begins : goal.returns-clause-begins
-returns-clause-begins c = grind (arith, length-walked, long, take-append_seam, decoded)
+returns-clause-begins c = grind (arith, long, take-append_seam, decoded)

@@ -31,7 +31,7 @@ module _ (c : After-take_run-len) where
   rest-is = grind (arith, take_rest, source)
 
   some : 0 < length (rest source)
-  some = grind (arith, length-drop)
+  some = grind arith
 
   found : first_piece source ≡ Some (head (rest source))
   found = first_piece_found source some
@@ -86,7 +86,7 @@ returns-clause-returned c =
     let counts = quiet-at _ _ _ _ w c.take_run-len.new.self refl in
     let is : c.map.result ≡ report_result c.min-parsed_size.result c.message_len-result.result = search rules in
     let m = c.message_len-result.ensures in
-    is ∙ answer-by _ _ _ _ _ _ (omega arith) (found at) (omega (arith, c.leading_zeros-start.ensures.count))
+    is ∙ answer-by _ _ _ _ _ _ (omega arith) (found at) (omega arith)
     (result-by _ _ _ _ _ (front at).begins w.fits counts.0 counts.1 m.whole m.broken) (always _ (count at end))
 
 pub returns-clause-buffer : goal.returns-clause-buffer

@@ -1,8 +1,6 @@
 -- A short frame is one span of `decode_span`. The bytes of the span are the source's first piece, so its counts give the result
 -- (`result-by`, `answer-by`).
 use Rattle.std.proofs.Common.{◌≡◌, ◌≢◌, ◌<◌, ◌+◌, ℕ, min, List, [], ◌∷◌, length, take, get_or, Some, refl, sym, ap, ◌∙◌, subst, arith, rules, length-take-le, length-take}
-use Rattle.std.proofs.lemmas.Bool.{eqb-true}
-use Rattle.std.proofs.lemmas.List.Elements.{All-get_or}
 use Rattle.cobs.specs.Decode.{leading_zeros, report_result, outcome_result}
 use Rattle.cobs.specs.Grammar.{HasNoZero}
 use Rattle.cobs.specs.Sentinel.{xor_each}
@@ -20,10 +18,10 @@ no_leading [] nz = refl
 no_leading (byte ∷ bytes) nz = grind arith
 
 nonzero_first : (source : List ℕ) (n : ℕ) → 0 < length (take n source) → HasNoZero (take n source) → get_or source 0 0 ≢ 0
-nonzero_first source n some none = grind (arith, All-get_or, get_or-take, length-take)
+nonzero_first source n some none = grind (arith, get_or-take, length-take)
 
 pub returns-then-is_empty-clause-taken : goal.returns-then-is_empty-clause-taken
-returns-then-is_empty-clause-taken c short room = grind (arith, eqb-true, length-head)
+returns-then-is_empty-clause-taken c short room = grind (arith, length-head)
 
 pub returns-in_err-left-clause-taken : goal.returns-in_err-left-clause-taken
 returns-in_err-left-clause-taken c short room = grind (arith, short_head, length-head, xor_each-zero, head-front, length-take-le, head_nonzero)
@@ -49,7 +47,7 @@ module _ (c : goal.After-map) where
   long = grind (arith, length-take-le, len, source)
 
   first : get_or source 0 0 ≢ 0
-  first = grind (arith, nonzero_first, source, len, same)
+  first = grind (arith, source, len, same)
 
   found : first_piece source ≡ Some (head source)
   found = grind (arith, first_piece_nonzero, source, long, first)
@@ -70,7 +68,7 @@ returns-clause-returned c =
     let parsed : length (source c) ≡ min (length (source c)) (leading_zeros (source c) + len c + 1) = omega (arith, no_leading (source c) (first c), c.len_without_end-len.ensures.last) in
     answer ∙ answer-by (source c) (head (source c)) _ _ (len c) _ (omega (arith, e.some, long c, c.len_without_end-len.ensures.within)) (found c) parsed
     (subst (λ (l : List ℕ). c.message_len.result ≡ outcome_result (outcome_of l (length c.args.dest.now))) (is c)
-    (result-by (p c) _ _ _ _ (omega (arith, e.some, ap length (same c))) (omega (arith, e.len, e.room)) (omega (arith, e.len, long c)) e.left c.message_len.ensures.whole c.message_len.ensures.broken))
+    (result-by (p c) _ _ _ _ (omega (arith, e.some, ap length (same c))) (omega (arith, e.room)) (omega (arith, e.len, long c)) e.left c.message_len.ensures.whole c.message_len.ensures.broken))
     (always _ (sym (long c) ∙ sym (ap length (same c)) ∙ ap length (is c)))
 
 pub returns-clause-buffer : goal.returns-clause-buffer

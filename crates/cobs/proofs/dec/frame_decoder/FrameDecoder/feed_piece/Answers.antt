@@ -3,7 +3,6 @@ use Rattle.std.proofs.lemmas.List.{take_all}
 use Rattle.std.proofs.Common.{arith, ◌∙◌, refl, sym}
 use Rattle.cobs.proofs.streaming.ByByteLemmas.{piece-nothing, piece-more, piece-ended}
 use Rattle.cobs.proofs.dec.frame_decoder.FrameDecoder.feed_piece.Goals as goal
-use Rattle.cobs.proofs.dec.frame_decoder.FrameDecoder.feed_piece.Goals.{then-byte-eq0+in_default, else-byte-eq0}
 
 pub by_byte-init : goal.by_byte-init
 by_byte-init g c = record { taken = piece-nothing _ _; same_loan = refl }
@@ -14,8 +13,8 @@ returns-in-Some-clause-takes g c = piece-ended _ _ c.by_byte-test.true c.by_byte
 pub by_byte-preserved : goal.by_byte-preserved
 by_byte-preserved g c = record {
   taken = piece-more _ _ c.by_byte-test.true c.by_byte.invariant.taken c.feed_byte-returned.ensures.feeds (λ z. elim c.if-byte-eq0.branch [
-    | then-byte-eq0+in_default w ↦ sym w.in_default.ensures.end
-    | else-byte-eq0 w ↦ absurd (w.if-byte-eq0.false z)
+    | goal.then-byte-eq0+in_default w ↦ sym w.in_default.ensures.end
+    | goal.else-byte-eq0 w ↦ absurd (w.if-byte-eq0.false z)
   ]);
   same_loan = c.feed_byte-returned.ensures.same_loan ∙ c.by_byte.invariant.same_loan;
 }

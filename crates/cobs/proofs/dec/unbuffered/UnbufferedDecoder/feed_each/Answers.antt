@@ -12,7 +12,6 @@ use Rattle.cobs.specs.declared.error.DecodeError.{DecodeError}
 use Rattle.cobs.proofs.streaming.ByByteLemmas.{piece-nothing, piece-more, piece-ended}
 use Rattle.cobs.proofs.streaming.FeedLemmas.{Feeds-as, Feeds-overlong, Feeds-zero, over_is}
 use Rattle.cobs.proofs.dec.unbuffered.UnbufferedDecoder.feed_each.Goals as goal
-use Rattle.cobs.proofs.dec.unbuffered.UnbufferedDecoder.feed_each.Goals.{then-here-eq0+else-by_byte-test, then-here-eq0+then-by_byte-test+then-byte-ne0+then-here-ne0, else-here-eq0}
 
 -- the byte at `i`, as it is in the frame for the sentinel 0
 module _ (bytes : List ℕ) (s i : ℕ) (within : i < length bytes) where
@@ -54,16 +53,16 @@ returns-in-Some c =
 
 pub to_end-init : goal.to_end-init
 to_end-init c = elim c.if-here-eq0.branch [
-  | then-here-eq0+else-by_byte-test w ↦
-      rw (w.dest-is, w.here-is, w.taken-is) (record { none_ended = w.by_byte.invariant; overlong = λ more. absurd (omega (arith, more, w.by_byte-test.false)) })
-  | then-here-eq0+then-by_byte-test+then-byte-ne0+then-here-ne0 w ↦
+  | goal.then-here-eq0+else-by_byte-test w ↦
+      rw (w.dest-is, w.here-is, w.taken-is) (record { none_ended = w.by_byte.invariant; overlong = λ more. absurd (omega (arith, w.by_byte-test.false)) })
+  | goal.then-here-eq0+then-by_byte-test+then-byte-ne0+then-here-ne0 w ↦
       let e = w.take_byte.ensures in
       let nonzero = w.if-byte-ne0.true in
       rw (w.dest-is, w.here-is, w.taken-is) (record {
         none_ended = next _ _ _ w.by_byte-test.true w.by_byte.invariant _ refl (Feeds-as refl (e.phase nonzero) (e.buffer nonzero)) (λ z. absurd (nonzero z));
         overlong = λ _. over_is w.take_byte.new.self w.if-here-ne0.true;
       })
-  | else-here-eq0 w ↦ rw (w.dest-is, w.here-is, w.taken-is) (record { none_ended = piece-nothing _ _; overlong = λ _. over_is c.args.self.now w.if-here-eq0.false })
+  | goal.else-here-eq0 w ↦ rw (w.dest-is, w.here-is, w.taken-is) (record { none_ended = piece-nothing _ _; overlong = λ _. over_is c.args.self.now w.if-here-eq0.false })
 ]
 
 pub returns-then-byte-eq0 : goal.returns-then-byte-eq0

@@ -40,7 +40,7 @@ returns-then-not-has_vectors c = grind (arith, xor_each-zero)
 
 pub returns-then-is_all : goal.returns-then-is_all
 returns-then-is_all c =
-    let all = take_all c.front_len-front.result c.args.bytes.now (omega (arith, c.if-is_all.true)) in
+    let all = take_all c.front_len-front.result c.args.bytes.now (omega arith) in
     record { takes = piece-all _ _ _ _ _ (rw all at c.take_front.ensures.fed c.if-take_front.true) }
 
 pub returns-in_err-end : goal.returns-in_err-end
@@ -51,7 +51,7 @@ returns-then-take_front c =
     let bytes : List ℕ = c.args.bytes.now in
     let len : ℕ = c.front_len-front.result in
     let between : Phase = phase_of c.take_front.new.self in
-    let within : len < length bytes = omega (arith, c.if-is_all.false, c.front_len-front.ensures.within) in
+    let within : len < length bytes = omega (arith, c.front_len-front.ensures.within) in
     let zero = c.front_len-front.ensures.stop within in
     let front : TakesPiece c.args.dest.now (phase_of c.args.self.now) (take len bytes) None c.take_front.new.dest between =
     piece-all _ _ _ _ _ (c.take_front.ensures.fed c.if-take_front.true) in
@@ -73,12 +73,12 @@ returns-then-bytes-le-FEW c =
 pub returns-then-taken-bytes : goal.returns-then-taken-bytes
 returns-then-taken-bytes c =
     let same = kept (goal.at.returns-then-taken-bytes c).Joined-bytes-gt-VERY_FEW in
-    let all = take_all c.take_to_end-taken.result c.args.bytes.now (omega (arith, c.if-taken-bytes.true)) in
+    let all = take_all c.take_to_end-taken.result c.args.bytes.now (omega arith) in
     record { takes = rw (same.0, same.1, all) at c.take_to_end-taken.ensures.none_ended }
 
 pub returns-in_err-last : goal.returns-in_err-last
 returns-in_err-last c =
-    let within : c.take_to_end-taken.result < length c.args.bytes.now = omega (arith, c.if-taken-bytes.false, c.take_to_end-taken.ensures.within) in
+    let within : c.take_to_end-taken.result < length c.args.bytes.now = omega (arith, c.take_to_end-taken.ensures.within) in
     absurd (end_begun _ _ (c.take_to_end-taken.ensures.begun within) (ap end_reported (sym c.end.ensures.returned) ∙ sym c.in_err-last.ensures.end))
 
 pub returns : goal.returns
@@ -88,7 +88,7 @@ returns c =
     let taken : ℕ = c.take_to_end-taken.result in
     let buffer : List ℕ = c.take_to_end-taken.new.dest in
     let between : Phase = phase_of c.take_to_end-taken.new.self in
-    let within : taken < length bytes = omega (arith, c.if-taken-bytes.false, c.take_to_end-taken.ensures.within) in
+    let within : taken < length bytes = omega (arith, c.take_to_end-taken.ensures.within) in
     let zero = c.take_to_end-taken.ensures.zero within in
     let front : TakesPiece c.args.dest.now (phase_of c.args.self.now) (take taken bytes) None buffer between = rw (same.0, same.1) at c.take_to_end-taken.ensures.none_ended in
     let last : Feeds buffer between (get_or bytes taken 0) (end_result (length buffer) between) buffer Idle = rw zero (Feeds-zero buffer between) in

@@ -1,7 +1,7 @@
 -- Each iteration feeds a run (`ran`), and then the byte after the run. This byte continues the call (`Pushed-more`), or
 -- ends it with a message (`pushed_some`) or an error (`pushed_error`). After the last byte the call ends without either
 -- (`pushed_none`).
-use Rattle.std.proofs.Common.{◌+◌, ◌∙◌, ap, arith, Ok, length-drop, length-take}
+use Rattle.std.proofs.Common.{◌+◌, ◌∙◌, ap, arith, Ok, length-take}
 use Rattle.cobs.specs.Fields.Decoders.{phase_of}
 use Rattle.cobs.proofs.streaming.PushLemmas.{Pushed, Pushed-start, Pushed-more, pushed_fed, pushed_none, pushed_some, pushed_error}
 use Rattle.std.proofs.lemmas.List.{take_rest}
@@ -13,7 +13,7 @@ by_run-init c = record { within = omega arith; pushed = Pushed-start _ _ _ }
 
 -- after the run
 ran : (c : After-take_at_once-at) → Pushed c.args.dest.now (phase_of c.args.self.now) c.take_at_once-at.new.dest (phase_of c.take_at_once-at.new.self) c.args.bytes.now (c.by_run.at + c.take_at_once-at.result)
-ran c = pushed_fed c.args.bytes.now _ _ (grind (arith, length-drop, length-take)) c.by_run.invariant.pushed (rw take_rest at c.take_at_once-at.ensures.fed)
+ran c = pushed_fed c.args.bytes.now _ _ (grind (arith, length-take)) c.by_run.invariant.pushed (rw take_rest at c.take_at_once-at.ensures.fed)
 
 pub by_run-preserved-in-Ok-None : goal.by_run-preserved-in-Ok-None
 by_run-preserved-in-Ok-None c = record {
@@ -23,7 +23,7 @@ by_run-preserved-in-Ok-None c = record {
 
 pub by_run-preserved : goal.by_run-preserved
 by_run-preserved c = record {
-  within = grind (arith, length-drop, length-take);
+  within = grind (arith, length-take);
   pushed = ran (goal.at.by_run-preserved c).After-take_at_once-at;
 }
 

@@ -2,14 +2,13 @@
 -- zero over each code (`marked`).
 use Rattle.std.proofs.Common.{arith, length}
 use Rattle.cobs.proofs.streaming.SpanLemmas.{joint-is, kept, marked}
-use Rattle.std.proofs.lemmas.List.Elements.{All-cons}
 use Rattle.cobs.proofs.dec.unbuffered.UnbufferedDecoder.take_copied.Goals as goal
 
 pub write_zeros_in_rows-requires-clause-copied : goal.write_zeros_in_rows-requires-clause-copied
 write_zeros_in_rows-requires-clause-copied c = grind arith
 
 pub write_zeros_in_rows-requires-clause-nonzero : goal.write_zeros_in_rows-requires-clause-nonzero
-write_zeros_in_rows-requires-clause-nonzero c = grind (arith, All-cons)
+write_zeros_in_rows-requires-clause-nonzero c = grind arith
 
 pub returns-then-len-missing-clause-fed : goal.returns-then-len-missing-clause-fed
 returns-then-len-missing-clause-fed c before xs room long is =

@@ -19,7 +19,7 @@ returns-clause-stop c more nz =
     let run : ℕ = c.take_blocks.result in
     let e = c.take_blocks.ensures in
     let l = length-take end bytes in
-    let all : end ≤ run → end ≡ run = λ past. omega (arith, e.within, l, past) in
+    let all : end ≤ run → end ≡ run = λ past. omega (arith, l, past) in
     let short : run < end = elim (cases_lt run end) [
       | inl less ↦ less
       | inr past ↦ absurd (nz (subst (λ (k : ℕ). get_or bytes k 0 ≡ 0) (all past) (c.zero_or_len-end.ensures.stop (omega (arith, all past)))))
