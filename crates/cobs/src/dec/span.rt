@@ -60,11 +60,11 @@ pub(crate) fn write_zeros_at_copied(
     )
 }
 
-/// Writes a zero over each code in `dest`, as [`write_zeros_at_copied`] does. If the first codes are rows of 32 codes
-/// 01, a row is written in one step: it would be slower to go from code to code, because each load would wait for the
-/// preceding load.
-// The number of bytes is tested first, because this test costs nothing: a caller has already compared this number with
-// 32, to choose the vectors of its copy.
+/// Writes a zero over each code in `dest`, as [`write_zeros_at_copied`] does. If `dest` begins with rows of 32 codes 01,
+/// each row is replaced by 32 zeros in one step. It would be slower to go from code to code, because each load would
+/// wait for the preceding load.
+// The number of bytes is tested first. This test costs little, because the caller has already compared the number with
+// 32, to choose the vectors for its copy.
 #[inline(always)]
 pub(crate) fn write_zeros_in_rows(
     dest: &mut [u8],

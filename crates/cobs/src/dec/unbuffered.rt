@@ -229,7 +229,7 @@ impl UnbufferedDecoder {
     }
 
     /// Decodes the bytes before the first zero that ends a piece, and returns the index of this zero. If no piece ends in
-    /// `bytes`, decodes all bytes and returns their number. There is at least one byte.
+    /// `bytes`, decodes all bytes and returns their number. The caller ensures that there is at least one byte.
     // Not inlined, so that `feed_piece` doesn't have to save registers if the piece is short. The result is only a
     // number, because a number is returned in a register.
     #[inline(never)]
@@ -250,7 +250,8 @@ impl UnbufferedDecoder {
     }
 
     /// Returns how many zeros `bytes` begins with if no piece has begun, and 0 if a piece has begun. These zeros end no
-    /// piece. Some serial lines carry many zeros while nothing is sent. There is at least one byte.
+    /// piece. Some serial lines carry many zeros while nothing is sent. The caller ensures that there is at least one
+    /// byte.
     #[inline(always)]
     fn zeros_outside(&self, bytes: &[u8]) -> usize
         requires some { 0 < length bytes.now }
@@ -269,6 +270,7 @@ impl UnbufferedDecoder {
     /// Skips the rest of a piece that is too long for the buffer: returns the index of the first zero from index `start`
     /// on, or the number of bytes if there is no zero. The caller ensures that the buffer has no room for the output of
     /// the byte at index `start`.
+    // Not inlined, so that `take_to_end` needs fewer registers.
     #[inline(never)]
     fn pass_to_end(&mut self, dest: &mut [u8], bytes: &[u8], start: usize) -> usize
         requires start { start < length bytes.now }
