@@ -88,6 +88,14 @@ pub fn decode_known_short(frame: &[u8], dest: &mut [u8]) -> bool
     decode_short(frame, dest).is_some()
 }
 
+/// Decodes a source that is one short frame, with or without a zero after it. If the function returns true, all bytes
+/// of the source were consumed: at most one byte follows the frame.
+pub fn decode_only_frame(source: &[u8], dest: &mut [u8]) -> bool
+    ensures { IsTrue result → length source.now ≤ length (head source.now) + 1 }
+{
+    decode_short(source, dest).is_some()
+}
+
 /// Decodes in place a frame that is known to have 2 to 65 bytes, and only whole blocks. Returns true, because
 /// [`decode_short_in_place`] always decodes such a frame.
 pub fn decode_known_short_in_place(frame: &mut [u8]) -> bool

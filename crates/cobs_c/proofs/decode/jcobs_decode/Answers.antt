@@ -1,7 +1,6 @@
 -- The source of a short frame consists of its first piece and at most a zero, so the call consumed the whole source. The
 -- result of `decode_short` gives the result of the call (`short-decodes`).
 use Rattle.std.proofs.Common.{◌∙◌, ℕ, List, Ok, Err, Result, length, ap, sym, subst}
-use Rattle.cobs.specs.Decode.{report_result, result_of_decode}
 use Rattle.cobs.specs.declared.DecodeError.{DecodeError}
 use Rattle.cobs_abi.specs.Answer.{result_by}
 use Rattle.cobs_abi.specs.Decode.{Decodes}
