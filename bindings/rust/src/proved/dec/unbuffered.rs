@@ -5,7 +5,7 @@
 use crate::proved::cobs_bytes::window::{WINDOW, has_vectors};
 use crate::proved::dec::frame_decoder::PieceEnd;
 use crate::proved::error::{DecodeError, DecodeReport, PushError};
-use crate::proved::find::{front_len, position_or_len};
+use crate::proved::find::{front_len, leading_zeros, position_or_len};
 
 /// Decodes a stream of frames, each ended by a zero, into a buffer that the caller passes to each call.
 ///
@@ -226,35 +226,40 @@ impl UnbufferedDecoder {
         Some((last, taken + 1))
     }
 
-    /// Decodes the bytes before the first zero that ends a piece, and returns the index of this zero. If no piece ends
-    /// in `bytes`, decodes all bytes and returns their number.
+    /// Decodes the bytes before the first zero that ends a piece, and returns the index of this zero. If no piece ends in
+    /// `bytes`, decodes all bytes and returns their number. The caller ensures that there is at least one byte.
     // Not inlined, so that `feed_piece` doesn't have to save registers if the piece is short. The result is only a
     // number, because a number is returned in a register.
     #[inline(never)]
     fn take_to_end(&mut self, dest: &mut [u8], bytes: &[u8]) -> usize {
-        let mut taken = 0;
-        while taken < bytes.len() {
-            if self.too_long != 0 {
-                // The piece is too long for the buffer, so the bytes before the zero that ends the piece are skipped.
-                let len = position_or_len(&bytes[taken..], 0);
-                return taken + len;
-            }
-            if bytes[taken] == 0 {
-                if !self.is_idle() {
-                    return taken;
-                }
-                // No piece has begun, so this zero ends no piece. Some serial lines carry many zeros while nothing is
-                // sent.
-                taken += 1;
-                continue;
-            }
-            taken += self.take_run(dest, &bytes[taken..]);
-            if taken < bytes.len() && bytes[taken] != 0 {
-                // The buffer has no room for the output of this byte, so the piece is too long.
-                self.take_byte(dest, bytes[taken]);
-                taken += 1;
-            }
+        let start = self.zeros_outside(bytes);
+        let taken = start + self.take_run(dest, &bytes[start..]);
+        if taken == bytes.len() || bytes[taken] == 0 {
+            return taken;
         }
-        taken
+        self.pass_to_end(dest, bytes, taken)
+    }
+
+    /// Returns how many zeros `bytes` begins with if no piece has begun, and 0 if a piece has begun. These zeros end no
+    /// piece. Some serial lines carry many zeros while nothing is sent. The caller ensures that there is at least one
+    /// byte.
+    #[inline(always)]
+    fn zeros_outside(&self, bytes: &[u8]) -> usize {
+        if bytes[0] == 0 && self.is_idle() {
+            leading_zeros(bytes)
+        } else {
+            0
+        }
+    }
+
+    /// Skips the rest of a piece that is too long for the buffer: returns the index of the first zero from index `start`
+    /// on, or the number of bytes if there is no zero. The caller ensures that the buffer has no room for the output of
+    /// the byte at index `start`.
+    // Not inlined, so that `take_to_end` needs fewer registers.
+    #[inline(never)]
+    fn pass_to_end(&mut self, dest: &mut [u8], bytes: &[u8], start: usize) -> usize {
+        self.take_byte(dest, bytes[start]);
+        let next = start + 1;
+        next + position_or_len(&bytes[next..], 0)
     }
 }
