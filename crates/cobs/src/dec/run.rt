@@ -12,7 +12,7 @@ ghost use Rattle.cobs.specs.Sentinel.{xor_each};
 ghost use Rattle.cobs.specs.Step.{next_phase};
 
 use crate::block::FULL_BLOCK_BYTES;
-use crate::dec::span::{write_zeros_at_codes, write_zeros_in_rows};
+use crate::dec::span::{write_zeros_at_codes, write_zeros_at_copied};
 use crate::dec::step::joint_after;
 use crate::dec::unbuffered::{START, UnbufferedDecoder};
 use crate::find::zero_or_len;
@@ -189,7 +189,7 @@ impl UnbufferedDecoder {
             return;
         }
         // `missing` bytes of the open block are missing, as many as directly after a code of `missing + 1`.
-        self.settle(write_zeros_in_rows(&mut dest[at..at + len], copied, missing + 1, sentinel));
+        self.settle(write_zeros_at_copied(&mut dest[at..at + len], copied, missing + 1, sentinel));
     }
 
     /// Decodes a span from the front of `bytes`, and returns the length of the span. The span has up to 253 bytes, and

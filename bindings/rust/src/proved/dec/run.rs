@@ -10,7 +10,7 @@ use crate::proved::cobs_bytes::lanes::{copy_xored, copy_xored_short};
 use crate::proved::cobs_bytes::window::{
     WIDE_WINDOW, WINDOW, copy_window, has_vectors, is_all, write_row,
 };
-use crate::proved::dec::span::{write_zeros_at_codes, write_zeros_in_rows};
+use crate::proved::dec::span::{write_zeros_at_codes, write_zeros_at_copied};
 use crate::proved::dec::step::joint_after;
 use crate::proved::dec::unbuffered::{START, UnbufferedDecoder};
 use crate::proved::find::zero_or_len;
@@ -122,7 +122,7 @@ impl UnbufferedDecoder {
             return;
         }
         // `missing` bytes of the open block are missing, as many as directly after a code of `missing + 1`.
-        self.settle(write_zeros_in_rows(
+        self.settle(write_zeros_at_copied(
             &mut dest[at..at + len],
             copied,
             missing + 1,

@@ -3,7 +3,7 @@
 //! piece.
 
 use crate::proved::cobs_bytes::lanes::copy_xored_short;
-use crate::proved::cobs_bytes::window::{WIDE_WINDOW, WINDOW, is_all, write_row};
+use crate::proved::cobs_bytes::window::{WIDE_WINDOW, WINDOW, is_all};
 use crate::proved::error::DecodeError;
 
 /// Writes a zero over each code in `dest`. `dest` contains the bytes of a piece that follow the code `first`. The
@@ -46,25 +46,6 @@ pub(crate) fn write_zeros_at_copied(
     )
 }
 
-/// Writes a zero over each code in `dest`, as [`write_zeros_at_copied`] does. If `dest` begins with rows of 32 codes 01,
-/// each row is replaced by 32 zeros in one step. It would be slower to go from code to code, because each load would
-/// wait for the preceding load.
-// The number of bytes is tested first. This test costs little, because the caller has already compared the number with
-// 32, to choose the vectors for its copy.
-#[inline(always)]
-pub(crate) fn write_zeros_in_rows(
-    dest: &mut [u8],
-    copied: &[u8],
-    first: usize,
-    sentinel: u8,
-) -> (u8, u8) {
-    if WINDOW <= copied.len() && first == 1 && is_all(copied, 0, 1 ^ sentinel) {
-        write_row(dest, 0, 0);
-        return write_zeros_in_rows(&mut dest[WINDOW..], &copied[WINDOW..], 1, sentinel);
-    }
-    write_zeros_at_copied(dest, copied, first, sentinel)
-}
-
 /// Decodes a source of 2 to 65 bytes for `sentinel`, and returns how many bytes of its last block are missing. The
 /// bytes of `dest` after the output are unchanged. Returns `None` and changes nothing if the source has another length,
 /// if one of its bytes is the sentinel, or if `dest` is shorter than the output. The output has one byte fewer than the
@@ -79,7 +60,7 @@ pub(crate) fn decode_span(source: &[u8], dest: &mut [u8], sentinel: u8) -> Optio
         return None;
     }
     let first = (source[0] ^ sentinel) as usize;
-    let (_, left) = write_zeros_in_rows(&mut dest[..len - 1], &source[1..], first, sentinel);
+    let (_, left) = write_zeros_at_copied(&mut dest[..len - 1], &source[1..], first, sentinel);
     Some(left)
 }
 

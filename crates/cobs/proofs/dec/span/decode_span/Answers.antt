@@ -39,8 +39,8 @@ returns-then-not-copy_xored_short-clause-taken c few room nz =
 
 -- the bytes of the output, and the missing bytes of the last block
 module _ (c : goal.After-slice_known-3-1) where
-  decoded : (c.write_zeros_in_rows-left.new.dest ≡ output (xor_each c.args.sentinel c.args.source.now)) × (c.write_zeros_in_rows-left.result.1 ≡ missing (last_part (xor_each c.args.sentinel c.args.source.now)))
-  decoded = piece c.args.source.now c.copy_xored_short.new.dest _ c.args.sentinel (omega arith) (c.if-not-copy_xored_short.ensures.copied refl) (omega arith) c.if-source-sentinel.false (c.if-not-copy_xored_short.ensures.nonzero refl) c.write_zeros_in_rows-left.ensures
+  decoded : (c.write_zeros_at_copied-left.new.dest ≡ output (xor_each c.args.sentinel c.args.source.now)) × (c.write_zeros_at_copied-left.result.1 ≡ missing (last_part (xor_each c.args.sentinel c.args.source.now)))
+  decoded = piece c.args.source.now c.copy_xored_short.new.dest _ c.args.sentinel (omega arith) (c.if-not-copy_xored_short.ensures.copied refl) (omega arith) c.if-source-sentinel.false (c.if-not-copy_xored_short.ensures.nonzero refl) c.write_zeros_at_copied-left.ensures
 
 pub returns-clause-len : goal.returns-clause-len
 returns-clause-len c = grind (arith, decoded, length-walked, long)

@@ -4,11 +4,11 @@ use Rattle.std.proofs.Common.{arith, length}
 use Rattle.cobs.proofs.streaming.SpanLemmas.{joint-is, kept, marked}
 use Rattle.cobs.proofs.dec.unbuffered.UnbufferedDecoder.take_copied.Goals as goal
 
-pub write_zeros_in_rows-requires-clause-copied : goal.write_zeros_in_rows-requires-clause-copied
-write_zeros_in_rows-requires-clause-copied c = grind arith
+pub write_zeros_at_copied-requires-clause-copied : goal.write_zeros_at_copied-requires-clause-copied
+write_zeros_at_copied-requires-clause-copied c = grind arith
 
-pub write_zeros_in_rows-requires-clause-nonzero : goal.write_zeros_in_rows-requires-clause-nonzero
-write_zeros_in_rows-requires-clause-nonzero c = grind arith
+pub write_zeros_at_copied-requires-clause-nonzero : goal.write_zeros_at_copied-requires-clause-nonzero
+write_zeros_at_copied-requires-clause-nonzero c = grind arith
 
 pub returns-then-len-missing-clause-fed : goal.returns-then-len-missing-clause-fed
 returns-then-len-missing-clause-fed c before xs room long is =
@@ -17,4 +17,4 @@ returns-then-len-missing-clause-fed c before xs room long is =
 pub returns-clause-fed : goal.returns-clause-fed
 returns-clause-fed c before xs room long is =
     let j = c.settle.ensures in
-    rw j.rest (marked c.args.self.now (length c.args.copied.now) c.args.dest.now (rw (← c.requires.copied) at c.requires.nonzero) before xs room long is c.requires.going c.requires.full c.requires.few (omega arith) _ _ _ _ c.write_zeros_in_rows.ensures (joint-is _ _ j.full j.other))
+    rw j.rest (marked c.args.self.now (length c.args.copied.now) c.args.dest.now (rw (← c.requires.copied) at c.requires.nonzero) before xs room long is c.requires.going c.requires.full c.requires.few (omega arith) _ _ _ _ c.write_zeros_at_copied.ensures (joint-is _ _ j.full j.other))
