@@ -135,9 +135,10 @@ def without_function():
         if not is_there(block.only):
             yield f"tests/wrong_code.txt: {block.name}: there is no {block.only}"
     for row in rows("tests/REFUSED.md"):
-        function = re.match(r"\| `(\w+(?:::\w+)+)(?::[^`]*)?`", row)
-        if function and (TOP / "crates" / function[1].split("::")[0]).is_dir() and not is_there(function[1]):
-            yield f"tests/REFUSED.md: there is no {function[1]}; `tests/wrong_code.py --write NAME` of the row's blocks writes it anew"
+        cell = re.match(r"\| `(\w+(?:::\w+)+(?:, \w+(?:::\w+)+)*)(?:: [^`]*)?`", row)
+        for function in cell[1].split(", ") if cell else []:
+            if (TOP / "crates" / function.split("::")[0]).is_dir() and not is_there(function):
+                yield f"tests/REFUSED.md: there is no {function}; `tests/wrong_code.py --write NAME` of the row's blocks writes it anew"
 
 
 def complaints():
