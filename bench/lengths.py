@@ -32,13 +32,13 @@ CALLS = {
     "push 16": "pushes of 16 bytes",
     "push 8": "pushes of 8 bytes",
     "push 1": "pushes of 1 byte",
-    "stream": "a stream of frames, each push with all bytes that are left",
+    "stream": "a stream of frames, each push gets all bytes that are left",
     "in place": "`decode_in_place`",
 }
 SMALL_NUMBERS = "i32, 16 bits"
 NO_ZEROS = "none"
 # The rows of the third table, and the lengths that are its columns.
-BOUND = {"decode": "`decode` of the library", "search and copies": "only the search and the copies, in C"}
+BOUND = {"decode": "`decode` of the library", "search and copies": "the loop in C, which only searches and copies"}
 LONG = {200: "200 bytes", 1500: "1,500 bytes", 8192: "8 KiB", 65536: "64 KiB"}
 HEAD = """| call | all lengths | 1 to 64 bytes | 200 bytes | 64 KiB | all lengths, without small numbers |
 |---|--:|--:|--:|--:|--:|"""
@@ -136,7 +136,7 @@ def main():
         instructions = counted(compiled, Path(folder))
     commits = f"commit {commit_of(TOP)} compared with {commit_of(options.old)}"
     text = f"**By time**, {commits}, at a load average of {load:.0f}:\n\n{table(speed)}\n\n"
-    text += f"**By instructions**, {commits}, with the caller's loop:\n\n{table(instructions)}\n\n"
+    text += f"**By instructions**, {commits}, including the instructions of the caller's loop:\n\n{table(instructions)}\n\n"
     text += f"**By time**, {commits}, only messages without zeros:\n\n{bound(speed)}\n"
     print(text)
     if options.docs:
