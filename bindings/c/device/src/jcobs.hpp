@@ -36,8 +36,8 @@
 //     }
 //
 // jcobs.h describes the members status, consumed and length of the jcobs_answer that a call returns. The preconditions
-// of jcobs.h apply here too, except those about lengths, because a view contains its length. So the input and the
-// buffer of a call must not overlap, and nothing else may change them while the call runs.
+// of jcobs.h apply here too, except those about lengths, because a view contains its length. For example, the input and
+// the buffer of a call must not overlap, and nothing else may change them while the call runs.
 #ifndef JCOBS_HPP
 #define JCOBS_HPP
 
