@@ -93,17 +93,16 @@
  * - length is the number of bytes at the front of the buffer that belong to the result.
  *
  * A call doesn't change the bytes of the buffer after the result. The only exception is
- * jcobs_decode_in_place_with_sentinel. If several calls with a jcobs_decoder decode one frame, or several calls with a
- * jcobs_encoder encode one message, the bytes after the result are as they were before the first of these calls. If a
- * call with a jcobs_encoder returns TOO_SMALL, the whole buffer is as it was before this call.
+ * jcobs_decode_in_place_with_sentinel. If you decode one frame with several calls, or encode one message with several
+ * calls, the bytes after the result are as they were before the first of these calls. If a call with a jcobs_encoder
+ * returns TOO_SMALL, the whole buffer is as it was before this call.
  *
  * A frame is a sequence of blocks. A block is a code, from 1 to 255, followed by code - 1 nonzero bytes. A block with
  * the code 255 is full. The output of a frame is the bytes that the frame decodes to: the bytes after the code of each
- * block, and a zero after each block except full blocks and the last block. A broken frame is cut off inside its last
+ * block, with a zero between two blocks unless the first of them is full. A broken frame is cut off inside its last
  * block. For some calls the output of a broken frame includes this block, and for other calls it doesn't. The zero
- * after the previous block, if that block has one, belongs to the output for all calls. For example, the broken frame
- * 02 41 05 42 is cut off inside the block 05 42. The output is 41 00 42 including this block, and 41 00 without this
- * block.
+ * before this block, if there is one, belongs to the output for all calls. For example, the broken frame 02 41 05 42 is
+ * cut off inside the block 05 42. The output is 41 00 42 including this block, and 41 00 without this block.
  *
  * jcobs_decode, jcobs_decode_in_place and their forms with a sentinel don't need a sentinel after the frame. If there
  * is no sentinel, the frame ends at the end of the source, and consumed is the source's length. So a frame that was cut
@@ -293,7 +292,7 @@ JCOBS_API jcobs_answer jcobs_decode(const void *source, size_t source_len, void 
 
 /* Decodes the frame at the front of the source, for the given sentinel, to the front of the buffer `message`. The frame
  * ends at the first sentinel or at the end of the source. No sentinel is skipped: if the source begins with a sentinel,
- * the message is empty. Even for the sentinel 0 the results may differ from those of jcobs_decode: jcobs_decode skips
+ * the message is empty. Even for the sentinel 0 the results may differ from those of jcobs_decode. That call skips
  * leading zeros, and its output of a broken frame includes the block that is cut off. */
 JCOBS_API jcobs_answer jcobs_decode_with_sentinel(const void *source, size_t source_len, void *message,
                                                   size_t message_size, unsigned char sentinel) JCOBS_READS(1, 2)

@@ -167,8 +167,8 @@ class FrameReader(Frames):
     on an older CPython, in pyserial, and in the file that a socket's `makefile` returns. If bytes are lost, the reader
     returns one `Broken` with empty `data` instead of the frames that are damaged by the loss.
 
-    If `sync` is true, a sentinel is sent before the first frame, so that earlier bytes of another sender, or noise on
-    the line, don't become part of the first frame.
+    If `sync` is true, a sentinel is sent before the first frame. So earlier bytes of another sender, or noise on the
+    line, don't become part of the first frame.
 
     One thread may read while another thread writes. While a call that reads is running, other calls that read raise
     RuntimeError. The same rule holds for calls that write.
