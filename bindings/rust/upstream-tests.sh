@@ -10,7 +10,7 @@
 #
 # precedes each module. The script writes the tests to a separate project, which depends on this crate under the name `cobs`,
 # and on Debian's librust-quickcheck-dev, so nothing is downloaded. The names of the tests that don't pass must be the names in
-# the section "The tests of the crate" of README.md.
+# the section "The tests of the crate `cobs`" of README.md.
 set -eu
 if [ $# -ne 1 ] || [ ! -d "$1" ]; then
     echo "usage: $0 FOLDER" >&2

@@ -36,8 +36,8 @@
 //     }
 //
 // jcobs.h describes the members status, consumed and length of the jcobs_answer that a call returns. The preconditions
-// of jcobs.h apply here too, except those about lengths, because a view contains its length. Buffers must not overlap,
-// and nothing else may change them while a call runs.
+// of jcobs.h apply here too, except those about lengths, because a view contains its length. For example, the input and
+// the buffer of a call must not overlap, and nothing else may change them while the call runs.
 #ifndef JCOBS_HPP
 #define JCOBS_HPP
 
@@ -66,8 +66,8 @@ namespace jcobs
 namespace detail
 {
 
-// Says whether a range has contiguous elements of one byte each, of any type. An array of char isn't accepted, because
-// the '\0' at its end would be one of the bytes.
+// Says whether a range has contiguous elements of one byte each, of any type. The value is false for an array of char,
+// because the '\0' at the end of the array would be one of the bytes.
 template <class Range, class Byte, class = void> struct is_bytes : std::false_type {
 };
 template <class Range, class Byte>
@@ -246,11 +246,13 @@ class receiver
 
     // Decodes the next bytes of the stream. For each message whose frame ends in these bytes, calls on_message(view).
     // For each frame that ends in these bytes and is broken or too long for the buffer, calls on_error(jcobs_answer). A
-    // message is in the buffer while on_message runs; after that, the next frame may overwrite the message. The member
-    // consumed of the jcobs_answer counts only bytes of this push, from the end of the previous frame or the start of
-    // the push. If a callback throws, the push has processed the bytes up to and including the sentinel of the frame
-    // that the callback was called for, and no later bytes. The receiver is then idle, and the next push begins a new
-    // frame.
+    // message is in the buffer while on_message runs; after that, the next frame may overwrite the message.
+    //
+    // The member consumed of the jcobs_answer counts only bytes of this push. The count begins after the previous frame
+    // that ended in this push, or at the start of the push.
+    //
+    // If a callback throws, the push has processed the bytes up to and including the sentinel of the callback's frame,
+    // and no later bytes. The receiver is then idle, and the next push begins a new frame.
     template <class OnMessage, class OnError> void push(view bytes, OnMessage &&on_message, OnError &&on_error)
     {
         consumed_ = 0;
@@ -356,8 +358,8 @@ class sender
     // finish ends the message and returns its frame, for the given sentinel. finish_terminated also writes the sentinel
     // after the frame, and returns the frame with the sentinel. The returned bytes are in the buffer until the next
     // push, feed or finish. If these bytes don't fit the buffer, the result is an empty view, and nothing has changed;
-    // you can then drop the message with reset. Pushes always leave room for the frame, so the result of finish is
-    // empty only if the size of the buffer is 0.
+    // you can then drop the message with reset. A frame without its sentinel always fits after the pushes, so the
+    // result of finish is empty only if the size of the buffer is 0.
     [[nodiscard]] view finish(unsigned char sentinel = 0) noexcept
     {
         return for_sentinel(jcobs_encoder_finish(&encoder_, buffer_.data(), buffer_.size()), sentinel);

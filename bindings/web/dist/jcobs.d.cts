@@ -1,13 +1,14 @@
 /**
  * Consistent Overhead Byte Stuffing (COBS), implemented by the proved code in cobs.wasm.
  *
- * A call throws a TypeError if it expects `Bytes` and gets something else, and for an option that the call doesn't have. It throws a
- * RangeError for a `sentinel`, a `maxLength` or a length that isn't one of the allowed numbers, and an Error if the module isn't
- * loaded.
+ * A call throws:
+ * - a TypeError if an argument must be `Bytes` and isn't, or if you pass an option that the call doesn't have;
+ * - a RangeError if a `sentinel`, a `maxLength` or a length isn't one of the allowed numbers;
+ * - an Error if the module isn't loaded.
  */
 
-// Not every `lib` of TypeScript declares these names. If `dom`, @types/node or a newer compiler declares them too, the
-// declarations here add nothing.
+// Some values of TypeScript's option `lib` don't declare these names. If `dom`, @types/node or a newer compiler declares them too,
+// the declarations here add nothing.
 declare global {
   interface SymbolConstructor {
     readonly dispose: unique symbol;

@@ -71,16 +71,16 @@
  *
  * A pointer to a state must be valid. The state may have any contents. Even if the state is corrupt, the call returns,
  * and accesses no memory outside the input, the buffer and the state. The result is still in range: consumed is at most
- * the number of bytes passed, and length is at most the buffer's size. The rest of the description of a result is only
- * for the initial state, and for states that a call of this header has left.
+ * the number of bytes passed, and length is at most the buffer's size. Everything else that this header says about a
+ * result is true only for the initial state, and for a state that an earlier call has left.
  *
  * While a call runs, nothing else may change its input, its buffer or its state: no other thread or process, no
  * interrupt or signal handler, no DMA transfer. A call may read a byte twice. If the byte changes between the two
  * reads, the call may access memory outside the buffers, or never return. So wait until a DMA transfer into the input
  * has finished, or pass a copy of the input.
  *
- * No function allocates memory or uses a lock. A function keeps neither a pointer nor anything else after it returns: a
- * call depends only on its arguments. So calls on different buffers and states may run at the same time, also in signal
+ * No function allocates memory or uses a lock. No function keeps a pointer or other data after it returns: a call
+ * depends only on its arguments. So calls on different buffers and states may run at the same time, also in signal
  * handlers.
  *
  * Results
@@ -93,30 +93,29 @@
  * - length is the number of bytes at the front of the buffer that belong to the result.
  *
  * A call doesn't change the bytes of the buffer after the result. The only exception is
- * jcobs_decode_in_place_with_sentinel. The rule also holds for all calls that decode one frame with a jcobs_decoder,
- * and for all calls that encode one message with a jcobs_encoder. The bytes after the result are then as they were
- * before the first of these calls. But if a call with a jcobs_encoder returns TOO_SMALL, the whole buffer is as it was
- * before this call.
+ * jcobs_decode_in_place_with_sentinel. If you decode one frame with several calls, or encode one message with several
+ * calls, the bytes after the result are as they were before the first of these calls. If a call with a jcobs_encoder
+ * returns TOO_SMALL, the whole buffer is as it was before this call.
  *
  * A frame is a sequence of blocks. A block is a code, from 1 to 255, followed by code - 1 nonzero bytes. A block with
  * the code 255 is full. The output of a frame is the bytes that the frame decodes to: the bytes after the code of each
- * block, and a zero after each block except full blocks and the last block. A broken frame is cut off inside its last
- * block. For some calls the output of a broken frame includes this block, and for other calls it doesn't. If there is a
- * zero before this block, the zero belongs to the output for all calls. For example, the broken frame 02 41 05 42 is
+ * block, with a zero between two blocks unless the first of them is full. A broken frame is cut off inside its last
+ * block. For some calls the output of a broken frame includes this block, and for other calls it doesn't. The zero
+ * before this block, if there is one, belongs to the output for all calls. For example, the broken frame 02 41 05 42 is
  * cut off inside the block 05 42. The output is 41 00 42 including this block, and 41 00 without this block.
  *
  * jcobs_decode, jcobs_decode_in_place and their forms with a sentinel don't need a sentinel after the frame. If there
  * is no sentinel, the frame ends at the end of the source, and consumed is the source's length. So a frame that was cut
  * off between two blocks is decoded as a shorter frame, with status OK. If your protocol ends each frame with a
- * sentinel, test whether source[consumed - 1] is the sentinel. This test also works after a call in place, because no
+ * sentinel, test whether source[consumed - 1] is the sentinel. This test also works after decoding in place, because no
  * call changes the sentinel or the bytes after it. The streaming decoder reports a frame only when its sentinel has
  * arrived. COBS has no checksum: damage that turns a frame into another frame isn't noticed.
  *
- * The built library, libjcobs.a, needs x86-64-v2 on x86-64 (SSE4.2 and POPCNT, which most Intel processors have since
- * 2009, and most AMD processors since 2011), and ARMv8-A on aarch64. The library has call frame information for
+ * This paragraph is about the built library, libjcobs.a, not about jcobs.c, which your compiler builds. On x86-64 the
+ * built library needs x86-64-v2 (SSE4.2 and POPCNT). Most Intel processors have these instructions since 2009, and most
+ * AMD processors since 2011. On aarch64 the library needs ARMv8-A. The library has call frame information for
  * debuggers, but no unwind tables, and no call throws or unwinds. Each call begins with a landing pad (endbr64 or bti
  * c), so a program that is hardened by IBT, SHSTK or BTI stays hardened. The library calls only memcpy and memmove.
- * This paragraph doesn't apply to jcobs.c, which your compiler builds.
  */
 #ifndef JCOBS_H
 #define JCOBS_H
@@ -142,9 +141,8 @@ extern "C" {
 #endif
 
 /* JCOBS_STATUS is the type of the member status of jcobs_answer. This type always has the size of unsigned int: in C
- * and C++, on every target, and also with -fshort-enums. If the header can make sure that the enum jcobs_status has
- * this size, the type is this enum, and -Wswitch checks a switch over the status. Otherwise the type is unsigned
- * int. */
+ * and C++, on every target, and also with -fshort-enums. The type is the enum jcobs_status if the header can make sure
+ * that this enum has that size; then -Wswitch checks a switch over the status. Otherwise the type is unsigned int. */
 #if (defined(__cplusplus) && __cplusplus >= 201103L) || (defined(__STDC_VERSION__) && __STDC_VERSION__ >= 202311L)
 #define JCOBS_ENUM(name) enum name : unsigned int
 #define JCOBS_STATUS jcobs_status
@@ -177,7 +175,7 @@ typedef struct jcobs_answer {
 enum jcobs_kind {
     JCOBS_NOT_A_FRAME = 0, /* there are no bytes, a byte is 0, or the bytes break off inside a block */
     JCOBS_CANONICAL = 1,   /* a frame that encoders write */
-    JCOBS_LONGER = 2       /* a frame that encoders write, and a byte 1 after it, which doesn't change the message */
+    JCOBS_LONGER = 2       /* a frame that encoders write, followed by a byte 1, which doesn't change the message */
 };
 
 /* The state of a streaming decoder. Only the library uses the members. */
@@ -210,7 +208,8 @@ typedef struct jcobs_encoder {
  * NULL. GCC also checks that the memory at a pointer is at least as long as the length that is passed with the pointer.
  * The parameters `pointer` and `length` of the macros are positions in the list of arguments. The calls that finish a
  * message are marked as calls that only write to the buffer, though they also read the pushed bytes from the buffer.
- * Otherwise GCC would warn if nothing was pushed, because then nothing has been written to the buffer. */
+ * This avoids a warning about messages without pushed bytes: GCC would say that nothing has been written to the
+ * buffer. */
 #ifdef __GNUC__
 #define JCOBS_CHECKED __attribute__((warn_unused_result))
 #define JCOBS_STATE __attribute__((nonnull(1)))
@@ -229,7 +228,7 @@ typedef struct jcobs_encoder {
 #endif
 
 /* Returns the length of the longest frame of a message of message_len bytes, without a sentinel. This length is
- * message_len plus the quotient message_len / 254, which is rounded up. For the empty message the length is 1.
+ * message_len plus message_len / 254, rounded up. For the empty message the length is 1.
  *
  * The macro JCOBS_MAX_LENGTH has the value that the function returns. If its argument is constant, the macro is a
  * constant expression, so an array can have this length. If the value doesn't fit a size_t, the macro wraps around, and
@@ -258,8 +257,8 @@ JCOBS_API jcobs_answer jcobs_encode_terminated(const void *message, size_t messa
  * - TOO_SMALL, exactly if the frame with its zero doesn't fit: consumed and length are 0, and the buffer is as it was.
  *   */
 
-/* Encode like jcobs_encode and jcobs_encode_terminated, but for another sentinel: each byte of the frame is XORed with
- * the sentinel. The second function also writes the sentinel after the frame. */
+/* Encode like jcobs_encode and jcobs_encode_terminated, but for the given sentinel: each byte of the frame is XORed
+ * with the sentinel. The second function also writes the sentinel after the frame. */
 JCOBS_API jcobs_answer jcobs_encode_with_sentinel(const void *message, size_t message_len, void *frame,
                                                   size_t frame_size, unsigned char sentinel) JCOBS_READS(1, 2)
     JCOBS_WRITES(3, 4) JCOBS_CHECKED;
@@ -287,13 +286,13 @@ JCOBS_API jcobs_answer jcobs_decode(const void *source, size_t source_len, void 
 /* returns:
  * - OK: consumed counts the leading zeros, the frame and the zero after it; length is the length of the message;
  * - BROKEN: consumed is as for OK; length is the length of the frame's output, including the block that is cut off;
- * - TOO_SMALL: consumed is as for OK; length is message_size. The output is longer than the buffer, and the buffer has
- *   the first bytes of the output;
+ * - TOO_SMALL, if the frame's output, including a block that is cut off, is longer than the buffer: consumed is as for
+ *   OK; length is message_size. The buffer has the first bytes of the output;
  * - EMPTY, if the source has no bytes or only zeros: consumed is source_len, and length is 0. */
 
 /* Decodes the frame at the front of the source, for the given sentinel, to the front of the buffer `message`. The frame
  * ends at the first sentinel or at the end of the source. No sentinel is skipped: if the source begins with a sentinel,
- * the message is empty. Even for the sentinel 0 the results may differ from those of jcobs_decode: jcobs_decode skips
+ * the message is empty. Even for the sentinel 0 the results may differ from those of jcobs_decode. That call skips
  * leading zeros, and its output of a broken frame includes the block that is cut off. */
 JCOBS_API jcobs_answer jcobs_decode_with_sentinel(const void *source, size_t source_len, void *message,
                                                   size_t message_size, unsigned char sentinel) JCOBS_READS(1, 2)
@@ -301,8 +300,8 @@ JCOBS_API jcobs_answer jcobs_decode_with_sentinel(const void *source, size_t sou
 /* returns:
  * - OK: consumed counts the frame and the sentinel after it; length is the length of the message;
  * - BROKEN: consumed is as for OK; length is the length of the frame's output, without the block that is cut off;
- * - TOO_SMALL: consumed is as for OK; length is message_size. The frame's output, without a block that is cut off, is
- *   longer than the buffer, and the buffer has the first bytes of the output;
+ * - TOO_SMALL, if the frame's output, without a block that is cut off, is longer than the buffer: consumed is as for
+ *   OK; length is message_size. The buffer has the first bytes of the output;
  * - EMPTY, if the source has no bytes: consumed and length are 0. */
 
 /* Decodes the frame at the front of the buffer in place. The frame ends at the first zero or at the end of the buffer.
@@ -343,8 +342,8 @@ JCOBS_API jcobs_answer jcobs_decoder_push(jcobs_decoder *decoder, void *buffer, 
  * - OK: consumed counts the bytes up to and including the zero that ends the frame; length is the length of the
  *   message;
  * - BROKEN: consumed is as for OK; length is the length of the frame's output, including the block that is cut off;
- * - TOO_SMALL: consumed is as for OK; length is buffer_size. The output is longer than the buffer, and the buffer has
- *   the first bytes of the output;
+ * - TOO_SMALL, if the frame's output, including a block that is cut off, is longer than the buffer: consumed is as for
+ *   OK; length is buffer_size. The buffer has the first bytes of the output;
  * - MORE: consumed is len; length is the number of bytes of the message so far that are in the buffer. */
 
 /* Decodes one byte of a stream. The call is faster than jcobs_decoder_push with this byte, and has the same effect. */
@@ -378,8 +377,8 @@ JCOBS_API jcobs_answer jcobs_encoder_push(jcobs_encoder *encoder, void *buffer, 
 /* returns:
  * - OK: consumed is len, and length is the length of the frame so far. The frame in the buffer isn't complete before
  *   the message is finished, because only the call that finishes the message writes the code of the open block;
- * - TOO_SMALL, exactly if the frame of the message, including these bytes, doesn't fit: consumed and length are 0, and
- *   the state and the buffer are as they were. */
+ * - TOO_SMALL, exactly if the frame of the message with these bytes doesn't fit: consumed and length are 0, and the
+ *   state and the buffer are as they were. */
 
 /* Encodes one byte of a message. The call is faster than jcobs_encoder_push with this byte, and has the same effect. */
 JCOBS_API jcobs_answer jcobs_encoder_feed(jcobs_encoder *encoder, void *buffer, size_t buffer_size,
@@ -404,9 +403,9 @@ JCOBS_API jcobs_answer jcobs_encoder_finish_terminated(jcobs_encoder *encoder, v
  * - TOO_SMALL, if the frame with its zero doesn't fit: consumed and length are 0, and the state and the buffer are as
  *   they were. */
 
-/* End the message like jcobs_encoder_finish and jcobs_encoder_finish_terminated, but for another sentinel: each byte of
- * the frame is XORed with the sentinel. The second function also writes the sentinel after the frame. The pushes are
- * the same for every sentinel. */
+/* End the message like jcobs_encoder_finish and jcobs_encoder_finish_terminated, but for the given sentinel: each byte
+ * of the frame is XORed with the sentinel. The second function also writes the sentinel after the frame. Push the
+ * message with jcobs_encoder_push or jcobs_encoder_feed, which are the same for every sentinel. */
 JCOBS_API jcobs_answer jcobs_encoder_finish_with_sentinel(jcobs_encoder *encoder, void *buffer, size_t buffer_size,
                                                           unsigned char sentinel) JCOBS_STATE
     JCOBS_WRITES(2, 3) JCOBS_CHECKED;

@@ -48,8 +48,8 @@ class AsyncFrameReader(Frames):
     `receive` (such as a stream of anyio). For asyncio, `writer` is the `StreamWriter`. For trio and anyio, messages are
     sent with the method `send_all` or `send` of `writer`, or of the stream if no `writer` is passed.
 
-    If `sync` is true, a sentinel is sent before the first frame, so that earlier bytes of another sender, or noise on
-    the line, don't become part of the first frame.
+    If `sync` is true, a sentinel is sent before the first frame. So earlier bytes of another sender, or noise on the
+    line, don't become part of the first frame.
 
     >>> import asyncio
     >>> async def show() -> None:

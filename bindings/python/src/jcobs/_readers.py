@@ -164,11 +164,11 @@ class FrameReader(Frames):
 
     A signal handler may raise an exception during a read, as the handler for Ctrl-C does. With the extension, on
     CPython 3.11 or later, no byte of a socket, a pipe or a file is lost even then. Bytes may be lost in plain Python,
-    on an older CPython, in pyserial and in the `makefile` of a socket. If bytes are lost, the reader returns one
-    `Broken` with empty `data` instead of the frames that are damaged by the loss.
+    on an older CPython, in pyserial, and in the file that a socket's `makefile` returns. If bytes are lost, the reader
+    returns one `Broken` with empty `data` instead of the frames that are damaged by the loss.
 
-    If `sync` is true, a sentinel is sent before the first frame, so that earlier bytes of another sender, or noise on
-    the line, don't become part of the first frame.
+    If `sync` is true, a sentinel is sent before the first frame. So earlier bytes of another sender, or noise on the
+    line, don't become part of the first frame.
 
     One thread may read while another thread writes. While a call that reads is running, other calls that read raise
     RuntimeError. The same rule holds for calls that write.
@@ -234,8 +234,8 @@ class FrameReader(Frames):
 
         With `timeout`, the call doesn't notice bytes that are in the buffer of a buffered file, for example after a
         `readline`. Open such a file with `buffering=0`, or pass these bytes to a `Decoder`. If a socket has a timeout,
-        make the reader from the socket, not from the socket's `makefile`: the `makefile` raises TimeoutError, and can't
-        be read any more after that.
+        make the reader from the socket itself, not from the file that its `makefile` returns. At a timeout this file
+        raises TimeoutError, and can't be read any more after that.
 
         On Windows, `timeout` works only for serial ports and sockets.
 
@@ -331,9 +331,9 @@ class FrameReader(Frames):
     def write(self, message: ReadableBuffer) -> None:
         """Sends a message as a frame, and the sentinel after the frame.
 
-        If this call ends with an exception, its own or one of a signal handler, a part of the frame may have been sent.
-        The next write then first sends bytes that end the cut frame. For the cut frame, the receiver reports at most
-        one `Broken` or `TooLong`. A port may still be sending when this call returns: the port's own `flush` waits
+        If this call raises an exception, or a signal handler does during the call, a part of the frame may have been
+        sent. The next write then first sends bytes that end the cut frame. For the cut frame, the receiver reports at
+        most one `Broken` or `TooLong`. A port may still be sending when this call returns: the port's own `flush` waits
         until everything is sent.
 
         >>> import io

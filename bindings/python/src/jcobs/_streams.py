@@ -61,7 +61,7 @@ class Coder:
 class Decoder(Coder):
     """Decodes a stream of frames that comes in chunks of any size.
 
-    `max_length` is the length of the longest message in bytes. The decoder allocates `max_length` bytes when it is
+    `max_length` is the length in bytes of the longest message. The decoder allocates `max_length` bytes when it is
     created. A broken or too long frame never affects the next frame.
 
     A decoder is for one thread at a time: while a call is running, each method raises RuntimeError in other threads and
@@ -119,9 +119,9 @@ class Decoder(Coder):
 class Encoder(Coder):
     """Encodes messages that come in chunks.
 
-    `max_length` is the length of the longest message in bytes. When the encoder is created, it allocates memory for
-    the frame of a message of this length. In plain Python it allocates memory for the message instead. An encoder is
-    for one thread at a time, like a `Decoder`.
+    `max_length` is the length in bytes of the longest message. When the encoder is created, it allocates memory for
+    the frame of a message of this length. In plain Python it allocates memory for the message instead of the frame. An
+    encoder is for one thread at a time, like a `Decoder`.
 
     >>> encoder = jcobs.Encoder()
     >>> encoder.feed(b"hel")
