@@ -58,8 +58,8 @@ output_of (Some p) = output p
 abbrev pub first_output : List ℕ → List ℕ
 first_output source = output_of (first_piece source)
 
--- the message of h, the bytes before the first zero of a source, or an error if h is broken; an empty h has the empty
--- message
+-- the message of h, or an error if h is broken. h consists of the bytes before the first zero of a source. If h is
+-- empty, its message is empty.
 abbrev pub message_of_head : List ℕ → Result (List ℕ) DecodeError
 message_of_head [] = Ok []
 message_of_head (byte ∷ bytes) =
@@ -113,8 +113,8 @@ abbrev pub decoded_head : List ℕ → Result (List ℕ) DecodeError
 decoded_head [] = Err EmptyFrame
 decoded_head (byte ∷ bytes) = message_of_head (head (byte ∷ bytes))
 
--- this error of a call that returns a vector is the error that decoding the source returned, or it says that memory ran
--- out
+-- `returned` is the result of decoding a source. A call that returns a vector may return this error: either it is the
+-- error in `returned`, or memory ran out.
 abbrev pub IsErrorFor : Result (List ℕ) DecodeError → DecodeVecError → Type 0
 IsErrorFor returned (Decode error) = returned ≡ Err error
 IsErrorFor returned (Memory error) = ⊤

@@ -54,7 +54,7 @@ outcome_at (ends.Message n) buffer = Message (take n buffer)
 outcome_at (ends.Broken count) buffer = Broken count
 outcome_at ends.TooLong buffer = TooLong
 
--- the end of a piece that the result of `feed` for a zero means; `None` if no piece has ended
+-- the `PieceEnd` that the result of `feed` for a zero means; `None` if no piece has ended
 abbrev pub end_reported : Result (Option ℕ) DecodeError → Option PieceEnd
 end_reported (Ok None) = None
 end_reported (Ok (Some n)) = Some (ends.Message n)

@@ -1,5 +1,5 @@
--- The definitions for the headline of docs/PROMISES.md, in the clauses `reads` and `only` of the decoders: a decoder
--- that gets all bytes of a list returns a message.
+-- The definitions that the clauses `reads` and `only` of the decoders use. The headline of docs/PROMISES.md rests on
+-- these clauses. They say for which bytes a decoder returns which message.
 use Rattle.std.specs.Prelude.{◌≡◌, ◌≢◌, ℕ, List, [], length, take, Option, Result, IsOkAnd, IsSomeAnd, IfErr, ⊤}
 use Rattle.cobs.specs.Grammar.{HasNoZero}
 use Rattle.cobs.specs.Fields.Report.{frame_size_of}

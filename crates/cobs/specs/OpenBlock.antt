@@ -36,8 +36,8 @@ next_open state byte =
     if byte == 0 then record { index = state.index + state.code; code = 1 }
     else (if state.code == 254 then record { index = state.index + 255; code = 1 } else record { index = state.index; code = state.code + 1 })
 
--- the output g after the caller has made the change that a result says; x is the new placeholder, if the change appends
--- one
+-- the output g after the caller has made the change that a result describes; x is the new placeholder, if the change
+-- appends one
 abbrev pub applied : List ℕ → PushResult → ℕ → List ℕ
 applied g (AddSingle b) x = g ++ b ∷ []
 applied g (ModifyFromStartAndSkip (i, c)) x = slice_set g i c ++ x ∷ []

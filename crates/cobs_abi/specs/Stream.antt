@@ -32,7 +32,7 @@ pub record DecodesNext (decoder : UnbufferedDecoder) (buffer bytes : List ℕ) (
   pub more : result.status ≡ MORE
       → result ≡ record { status = MORE; consumed = length bytes; length = held (length buffer) (phase_of decoder') }
   pub too_small : result.status ≡ TOO_SMALL → result.length ≡ length buffer
-  -- in every state, even a corrupt one
+  -- the remaining fields hold in every state, even a corrupt one
   pub status : result.status ≤ BROKEN
   pub consumed : result.consumed ≤ length bytes
   pub bound : result.length ≤ length buffer
@@ -51,7 +51,7 @@ pub record EncodesNext (encoder : UnbufferedEncoder) (buffer bytes : List ℕ) (
   pub taken : result.status ≡ OK → (m : List ℕ) → CobsEncoderAfter buffer (reached_by encoder) m
       → CobsEncoderAfter buffer' (reached_by encoder') (m ++ bytes)
   pub counted : result.status ≡ OK → (m : List ℕ) → CobsEncoderAfter buffer (reached_by encoder) m → result.length ≡ encoded_len (m ++ bytes)
-  -- in every state, even a corrupt one
+  -- the remaining fields hold in every state, even a corrupt one
   pub returned : result.status ≡ OK
       → result ≡ record { status = OK; consumed = length bytes; length = end_of (reached_by encoder') }
   pub too_small : result.status ≢ OK → result ≡ record { status = TOO_SMALL; consumed = 0; length = 0 }
@@ -66,7 +66,7 @@ pub record EncodesNext (encoder : UnbufferedEncoder) (buffer bytes : List ℕ) (
 pub record Finishes (added : ℕ) (IsWanted : List ℕ → List ℕ → Type 0) (encoder : UnbufferedEncoder) (buffer : List ℕ) (result : Answer) (encoder' : UnbufferedEncoder) (buffer' : List ℕ) : Type 0 where
   pub writes : (m : List ℕ) → CobsEncoderAfter buffer (reached_by encoder) m
       → Writes (encoded_len m + added) 0 (λ bytes. IsWanted bytes m) buffer result buffer'
-  -- in every state, even a corrupt one
+  -- the remaining fields hold in every state, even a corrupt one
   pub place : result.status ≡ OK → result.length ≡ end_of (reached_by encoder) + added
   pub fresh : result.status ≡ OK → IsFreshEncoder encoder'
   pub too_small : result.status ≢ OK → result ≡ record { status = TOO_SMALL; consumed = 0; length = 0 }

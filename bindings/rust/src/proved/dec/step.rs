@@ -33,6 +33,7 @@ impl UnbufferedDecoder {
         }
         // No byte of a block is missing here. If a piece has begun and its last block isn't full, `joint` isn't 0. If a
         // piece has begun and its last block is full, `written` isn't 0, because the bytes of that block were written.
+        // So if both are 0, no piece has begun.
         if ended.written == 0 && ended.joint == 0 {
             Ok(None)
         } else {
