@@ -26,8 +26,8 @@ AreAlikeAtFirst [] (y ∷ ys) = ⊥
 AreAlikeAtFirst (x ∷ xs) [] = ⊥
 AreAlikeAtFirst (x ∷ xs) (y ∷ ys) = AreAlike x y × (xs ≡ ys)
 
--- the bytes are fed one after another, and change buffer and phase to `buffer'` and `phase'`; `feed` may return
--- anything for each byte
+-- the bytes are fed one after another, and change buffer and phase to `buffer'` and `phase'`; `feed` may return any
+-- result for each byte
 abbrev pub FeedsEach : List ℕ → Phase → List ℕ → List ℕ → Phase → Type 0
 FeedsEach buffer phase [] buffer' phase' = (buffer' ≡ buffer) × (phase' ≡ phase)
 FeedsEach buffer phase (byte ∷ bytes) buffer' phase' =

@@ -23,8 +23,8 @@ use Rattle.cobs.specs.declared.dec.frame_decoder.PieceEnd.TheVariants.{Message}
 abbrev pub IsFrameFor : List ℕ → List ℕ → Type 0
 IsFrameFor f m = IsEncodedFrame f m ⊎ (EndsInFullRun m × ((g : List ℕ) × IsEncodedFrame g m × (f ≡ g ++ lone_block)))
 
--- p ends at the end of one of these blocks: p consists of the first blocks, end to end, any number of them from none to
--- all
+-- p consists of the first blocks of this list, end to end: none of them, some of them or all of them. So p is empty, or
+-- ends at the end of a block.
 abbrev pub EndsAtBlock : List ℕ → List (List ℕ) → Type 0
 EndsAtBlock p blocks = (first : List (List ℕ)) × (rest : List (List ℕ)) × (blocks ≡ first ++ rest) × (p ≡ concat first)
 
@@ -39,9 +39,9 @@ IsAtSentinel t = (t ≡ []) ⊎ ((front : List ℕ) × (t ≡ front ++ 0 ∷ [])
 -- the clause of `law_9`: a stream may be cut anywhere. The facts are a record, so that a lemma can have them as one
 -- argument.
 pub record StreamLaw : Type 0 where
-  -- the outcomes of x ++ y are those of x, and then those of the unended bytes of x followed by y
+  -- the outcomes of x ++ y are those of x, and then those of `unended x ++ y`
   pub cut : (x y : List ℕ) (n : ℕ) → stream_outcomes (x ++ y) n ≡ stream_outcomes x n ++ stream_outcomes (unended x ++ y) n
-  -- the unended bytes of x ++ y are those of the unended bytes of x followed by y
+  -- x ++ y has the same unended bytes as `unended x ++ y`
   pub left : (x y : List ℕ) → unended (x ++ y) ≡ unended (unended x ++ y)
   -- after a zero, no byte is unended
   pub ended : (x : List ℕ) → unended (x ++ 0 ∷ []) ≡ []

@@ -346,7 +346,7 @@ pub fn law_11()
         → outcome_of f n ≡ Message m }
 {}
 
-/// A stream's first piece, and its last.
+/// The first and the last piece of a stream.
 ///
 /// If a stream begins with a nonzero byte, its first piece consists of the bytes before the first zero. In a buffer as long as
 /// the stream, the outcome of the first piece is the message m exactly if the piece reads as m. Zeros before the first piece

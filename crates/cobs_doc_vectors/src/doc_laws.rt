@@ -161,7 +161,7 @@ pub fn encode_for_stream(message: &[u8], dest: &mut [u8]) -> usize
 pub fn begins_with_piece(stream: &[u8]) -> bool
     ensures { IsTrue result → first_piece stream.now ≡ Some (head stream.now) }
 {
-    law_12(); // A stream's first piece, and its last
+    law_12(); // The first and the last piece of a stream
     match stream {
         [] | [0, ..] => false,
         _ => true,

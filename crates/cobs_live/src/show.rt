@@ -336,7 +336,7 @@ fn show_bytes<W: Write>(
         (λ fault. (fault ≢ WatchFault.ReadFailed) × (fault ≢ WatchFault.OutOfMemory)) }
 {
     law_9(); // A stream may be cut anywhere
-    law_12(); // A stream's first piece, and its last
+    law_12(); // The first and the last piece of a stream
     let mut composed = Composed::new();
     let mut at = 0;
     'by_part: while at < bytes.len() {

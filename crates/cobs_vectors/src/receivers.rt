@@ -78,7 +78,7 @@ pub fn salvage<D: FrameDecoder>(decoder: &mut D, received: &[u8]) -> Option<(Pie
         → D.bytes decoder.new ≡ overwritten (D.bytes decoder.old) (output piece) }
 {
     law_9(); // A stream may be cut anywhere
-    law_12(); // A stream's first piece, and its last
+    law_12(); // The first and the last piece of a stream
     law_14(); // A decoder is idle exactly if no piece has begun
     law_18(); // Streaming decoders return the message of each frame, and no other message
     decoder.feed_piece(received)
@@ -183,7 +183,7 @@ pub fn between_reads_as(sentinel: u8, between: &[u8], message: &[u8], buffer: &m
 pub fn before_sentinel(received: &[u8], sentinel: u8) -> &[u8]
     ensures { xor_each sentinel result.now ≡ head (xor_each sentinel received.now) }
 {
-    law_12(); // A stream's first piece, and its last
+    law_12(); // The first and the last piece of a stream
     'by_byte: for (at, byte) in received.iter().enumerate() {
         if *byte == sentinel {
             return &received[..at];

@@ -18,9 +18,9 @@ use std::alloc::{AllocError, Global};
 ///
 /// `feed` decodes one byte of the stream, and `push` decodes any number of bytes. When a frame ends, its message is at
 /// the front of the slice, and stays there until the next nonzero byte is fed. A piece of the stream consists of the
-/// bytes between two zeros. The outcome of a piece depends only on the bytes of the piece and on the length of the
-/// slice: the decoder is idle after every zero, so a broken frame never affects another frame. The rule that a zero
-/// ends each frame is from Cheshire and Baker's paper.
+/// bytes between two zeros. The decoder is idle after every zero, so a broken frame never affects another frame: the
+/// outcome of a piece depends only on the bytes of the piece and on the length of the slice. The rule that a zero ends
+/// each frame is from Cheshire and Baker's paper.
 ///
 /// ```
 /// let mut buffer = [0; 8];

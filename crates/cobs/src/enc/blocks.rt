@@ -362,7 +362,7 @@ pub(crate) fn close_block(dest: &mut [u8], encoder: &UnbufferedEncoder) -> usize
 
 /// Writes the code of the open block, unless the frame ends with a full block, and returns the frame's length, as
 /// [`close_block`] does. If the frame ends with a full block, and the target has SIMD vectors, `close` also stores the
-/// next byte of the slice, if the slice has one: it stores the value that this byte already has.
+/// next byte of the slice, if there is one. It stores the value that this byte already has.
 // With this store, compilers keep the caller's loop over single bytes as it is written. If only an open block's code
 // were stored, this loop would be slower in the Rust crate on x86-64. On a target without vectors `close` calls
 // `close_block`, which needs fewer bytes of flash.

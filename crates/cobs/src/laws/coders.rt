@@ -116,11 +116,11 @@ pub fn law_17()
 
 /// Streaming decoders return the message of each frame, and no other message.
 ///
-/// Assume that the buffer has room for the message of a frame. If all bytes of the frame have been fed, `feed` returns
-/// the length of the message for the zero after the frame. If an idle decoder gets a piece, a zero and any other bytes,
-/// `feed_piece` stops after that zero. If the piece is this frame, `feed_piece` returns the length of the message. A
-/// `push` of the frame and its zero to an idle decoder returns the length of the message too. After each of these calls
-/// the buffer begins with the message. No piece that isn't a frame is decoded as a message.
+/// Assume that the buffer has room for the message of a frame. After all bytes of the frame have been fed, `feed` of
+/// the zero after the frame returns the length of the message. If an idle decoder gets a piece, a zero and any other
+/// bytes, `feed_piece` stops after that zero. If the piece is this frame, `feed_piece` returns the length of the
+/// message. A `push` of the frame and its zero to an idle decoder returns the length of the message too. After each of
+/// these calls the buffer begins with the message. No piece that isn't a frame is decoded as a message.
 ///
 /// So each of these calls decodes the frames that [`encode`](crate::encode) writes.
 ///

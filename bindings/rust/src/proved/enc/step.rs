@@ -123,7 +123,7 @@ impl UnbufferedEncoder {
     /// Encodes the next bytes of the message, one byte at a time.
     ///
     /// The effect and the result are those of [`push`](UnbufferedEncoder::push). The code of `push_each` is smaller and
-    /// slower; it is meant for small devices.
+    /// slower than that of `push`; it is meant for small devices.
     ///
     /// # Errors
     /// The errors are those of [`push`](UnbufferedEncoder::push).
