@@ -168,8 +168,8 @@ static JCOBS_INLINE void jcobs_decoder_init(jcobs_decoder *decoder)
 
 /* ---- Encoding a whole message ---- */
 
-/* Returns the greatest overhead, in bytes, of an encoded frame of a message of message_len bytes. The overhead of
- * a frame is its length minus the length of its message. */
+/* Returns the greatest overhead, in bytes, that the encoded frame of a message of message_len bytes can have. The
+ * overhead of a frame is its length minus the length of its message. */
 static size_t jcobs_max_overhead(size_t message_len)
 {
     if (message_len == 0) {
@@ -333,9 +333,8 @@ jcobs_answer jcobs_encode_terminated(const void *message, size_t message_len, vo
  * with this byte. The caller ensures that there is room for the byte. */
 static JCOBS_INLINE size_t jcobs_encoder_append_byte(jcobs_encoder *encoder, unsigned char *buffer, unsigned char byte)
 {
-    /* `code` is the code of the open block before this byte. If the byte joins this block, the same number is
-     * how many bytes the block then has, so `taken` becomes `code`. If the byte ends the block, `taken` becomes
-     * 0. */
+    /* `code` is the code of the open block before this byte. If the byte joins this block, the block then has
+     * `code` bytes after its code, so `taken` becomes `code`. If the byte ends the block, `taken` becomes 0. */
     size_t index = encoder->index;
     size_t code = (size_t)encoder->taken + 1;
     size_t next = index + code;
@@ -513,7 +512,7 @@ jcobs_answer jcobs_decode(const void *source, size_t source_len, void *message, 
 }
 
 /* Returns how many bytes come before the first zero, or the number of all bytes if there is no zero. The loop
- * tests four bytes in each round, and so needs half the instructions. */
+ * tests four bytes in each round, so a byte costs half as many instructions as with one byte in each round. */
 static JCOBS_APART size_t jcobs_length_to_zero(const unsigned char *bytes, size_t len)
 {
     const unsigned char *rest = bytes;
@@ -714,7 +713,7 @@ static JCOBS_INLINE jcobs_end jcobs_decoder_end_piece(jcobs_decoder *decoder, si
     }
     /* No byte of a block is missing here. If a piece has begun and its last block isn't full, `joint` isn't 0.
      * If a piece has begun and its last block is full, `written` isn't 0, because the bytes of that block were
-     * written. */
+     * written. So if both are 0, no piece has begun. */
     if (before.written == 0 && before.joint == 0) {
         return jcobs_make_end(JCOBS_END_NONE, 0);
     }
@@ -852,7 +851,7 @@ unsigned int jcobs_decoder_is_idle(const jcobs_decoder *decoder)
     return decoder->written == 0 && decoder->missing == 0 && decoder->joint == 0 && decoder->too_long == 0;
 }
 
-/* ---- Encoding a message that comes in pieces ---- */
+/* ---- Encoding a message that comes in chunks ---- */
 
 /* Resets the encoder to the initial state, from any state.
  * Proved, by the contract in encoder.rt: after the call the encoder has taken no byte, whatever its state was. */

@@ -31,7 +31,7 @@ SECTIONS = {
     "jcobs_max_length": "Encoding a whole message",
     "jcobs_decode": "Decoding a whole frame",
     "jcobs_decoder_reset": "Decoding a stream",
-    "jcobs_encoder_reset": "Encoding a message that comes in pieces",
+    "jcobs_encoder_reset": "Encoding a message that comes in chunks",
 }
 # Parameters and variables of each function; the names under "" apply to every function. The length of the slice `NAME` is
 # `NAME_len` if its bytes are there, and `NAME_size` if the slice is a buffer with room. A call of jcobs.h and the functions
@@ -148,8 +148,8 @@ COMMENTS = {
     "leading_zeros": [(" [`decode`](crate::decode) skips these zeros before a frame.", "")],
     "len_to_zero": [(
         "or the length of `bytes` if there is no zero. The function is small, because it uses no SIMD vectors.",
-        "or the number of all bytes if there is no zero. The loop tests four bytes in each round, and so needs half the"
-        " instructions.",
+        "or the number of all bytes if there is no zero. The loop tests four bytes in each round, so a byte costs half as"
+        " many instructions as with one byte in each round.",
     )],
     "result_by": [(
         "a call that consumed `consumed` bytes and decoded them into a buffer of `room` bytes. `size` is the length of the message,"

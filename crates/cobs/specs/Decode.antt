@@ -15,7 +15,7 @@ use Rattle.cobs.specs.declared.error.DecodeVecError.TheVariants.{Decode, Memory}
 abbrev pub leading_zeros : List ℕ → ℕ
 leading_zeros source = prefix_len (λ byte. byte == 0) source
 
--- the source has 2 to 65 bytes before its first zero, and no byte after this zero; or it has no zero, and 2 to 65 bytes
+-- the source consists of 2 to 65 nonzero bytes, with or without one zero after them
 abbrev pub IsShortPiece : List ℕ → Type 0
 IsShortPiece source = let n = length (head source) in (2 ≤ n) × (n ≤ 65) × (length source ≤ n + 1)
 
@@ -29,7 +29,7 @@ outcome_result (Message message) = Ok (length message)
 outcome_result (Broken count) = Err (InvalidFrame count)
 outcome_result TooLong = Err TargetBufTooSmall
 
--- a result that is a message's length, as a report that also has the number of bytes consumed; an error stays the same
+-- the result as a report, which has the number of bytes consumed and the message's length; an error stays the same
 abbrev pub report_result : ℕ → Result ℕ DecodeError → Result DecodeReport DecodeError
 report_result parsed (Ok size) = Ok (record { parsed_size = parsed; frame_size = size })
 report_result parsed (Err error) = Err error
@@ -58,8 +58,8 @@ output_of (Some p) = output p
 abbrev pub first_output : List ℕ → List ℕ
 first_output source = output_of (first_piece source)
 
--- the message of h, the bytes before the first zero of a source, or an error if h is broken; an empty h has the empty
--- message
+-- the message of h, or an error if h is broken. h consists of the bytes before the first zero of a source. If h is
+-- empty, its message is empty.
 abbrev pub message_of_head : List ℕ → Result (List ℕ) DecodeError
 message_of_head [] = Ok []
 message_of_head (byte ∷ bytes) =
@@ -101,20 +101,20 @@ abbrev pub message_of_piece : Option (List ℕ) → Result (List ℕ) DecodeErro
 message_of_piece None = Err (InvalidFrame 0)
 message_of_piece (Some p) = if is_whole p then Ok (output p) else Err (InvalidFrame (length (output p)))
 
--- the message of a source, that is, the message of its first piece, or the error if the source is empty, has no piece,
--- or its first piece is broken
+-- the message of the first piece of a source; or the error, if the source is empty, if it has no piece, or if its first
+-- piece is broken
 abbrev pub decoded : List ℕ → Result (List ℕ) DecodeError
 decoded [] = Err EmptyFrame
 decoded (byte ∷ bytes) = message_of_piece (first_piece (byte ∷ bytes))
 
--- the message that `decode_vec_with_sentinel` returns for a source and the sentinel 0, that is, the message of the
--- bytes before the first zero, or the error if the source is empty or these bytes are broken
+-- the result of `decode_vec_with_sentinel` for a source and the sentinel 0: the message of the bytes before the first
+-- zero; or the error, if the source is empty or these bytes are broken
 abbrev pub decoded_head : List ℕ → Result (List ℕ) DecodeError
 decoded_head [] = Err EmptyFrame
 decoded_head (byte ∷ bytes) = message_of_head (head (byte ∷ bytes))
 
--- this error of a call that returns a vector is the error that decoding the source returned, or it says that memory ran
--- out
+-- `returned` is the result of decoding a source. A call that returns a vector may return this error: either it is the
+-- error in `returned`, or memory ran out.
 abbrev pub IsErrorFor : Result (List ℕ) DecodeError → DecodeVecError → Type 0
 IsErrorFor returned (Decode error) = returned ≡ Err error
 IsErrorFor returned (Memory error) = ⊤

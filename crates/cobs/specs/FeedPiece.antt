@@ -26,8 +26,8 @@ AreAlikeAtFirst [] (y ∷ ys) = ⊥
 AreAlikeAtFirst (x ∷ xs) [] = ⊥
 AreAlikeAtFirst (x ∷ xs) (y ∷ ys) = AreAlike x y × (xs ≡ ys)
 
--- the bytes are fed one after another, and change buffer and phase to `buffer'` and `phase'`; `feed` may return
--- anything for each byte
+-- the bytes are fed one after another, and change buffer and phase to `buffer'` and `phase'`; `feed` may return any
+-- result for each byte
 abbrev pub FeedsEach : List ℕ → Phase → List ℕ → List ℕ → Phase → Type 0
 FeedsEach buffer phase [] buffer' phase' = (buffer' ≡ buffer) × (phase' ≡ phase)
 FeedsEach buffer phase (byte ∷ bytes) buffer' phase' =
@@ -54,7 +54,7 @@ outcome_at (ends.Message n) buffer = Message (take n buffer)
 outcome_at (ends.Broken count) buffer = Broken count
 outcome_at ends.TooLong buffer = TooLong
 
--- the end of a piece that the result of `feed` for a zero means; `None` if no piece has ended
+-- the `PieceEnd` that the result of `feed` for a zero means; `None` if no piece has ended
 abbrev pub end_reported : Result (Option ℕ) DecodeError → Option PieceEnd
 end_reported (Ok None) = None
 end_reported (Ok (Some n)) = Some (ends.Message n)

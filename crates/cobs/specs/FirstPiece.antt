@@ -11,9 +11,9 @@ end_with (Message message) = ends.Message (length message)
 end_with (Broken count) = ends.Broken count
 end_with TooLong = ends.TooLong
 
--- the result of `decode_piece` for a source and a buffer of n bytes, given the first piece of the source: how this
--- piece ends, and the number of bytes of the source up to the end of this piece, plus 1 if a zero follows it; `None` if
--- there is no piece
+-- the result of `decode_piece` for a source and a buffer of n bytes, given the first piece of the source. The result
+-- says how this piece ends, and how many bytes of the source there are up to the end of the piece, plus 1 if a zero
+-- follows it. It is `None` if there is no piece.
 abbrev pub end_by_piece : List ℕ → Option (List ℕ) → ℕ → Option (PieceEnd × ℕ)
 end_by_piece source None n = None
 end_by_piece source (Some p) n = Some (end_with (outcome_of p n), len_through_piece source p)

@@ -38,8 +38,8 @@ lone_block = 1 ∷ []
 abbrev pub joint : List ℕ → List ℕ
 joint block = if is_full block then [] else 0 ∷ []
 
--- the message that a list of blocks stands for: the bytes of each block, with the joint of the block after them unless
--- the block is the last one
+-- the message that a list of blocks stands for: for each block in order, the bytes after its code and then, unless it
+-- is the last block, its joint
 abbrev pub message_of : List (List ℕ) → List ℕ
 message_of [] = []
 message_of (block ∷ []) = bytes_of block

@@ -23,8 +23,8 @@ use Rattle.cobs.specs.declared.dec.frame_decoder.PieceEnd.TheVariants.{Message}
 abbrev pub IsFrameFor : List ℕ → List ℕ → Type 0
 IsFrameFor f m = IsEncodedFrame f m ⊎ (EndsInFullRun m × ((g : List ℕ) × IsEncodedFrame g m × (f ≡ g ++ lone_block)))
 
--- p ends at the end of one of these blocks: p consists of the first blocks, end to end, any number of them from none to
--- all
+-- p consists of the first blocks of this list, end to end: none of them, some of them or all of them. So p is empty, or
+-- ends at the end of a block.
 abbrev pub EndsAtBlock : List ℕ → List (List ℕ) → Type 0
 EndsAtBlock p blocks = (first : List (List ℕ)) × (rest : List (List ℕ)) × (blocks ≡ first ++ rest) × (p ≡ concat first)
 
@@ -39,9 +39,9 @@ IsAtSentinel t = (t ≡ []) ⊎ ((front : List ℕ) × (t ≡ front ++ 0 ∷ [])
 -- the clause of `law_9`: a stream may be cut anywhere. The facts are a record, so that a lemma can have them as one
 -- argument.
 pub record StreamLaw : Type 0 where
-  -- the outcomes of x ++ y are those of x, and then those of the unended bytes of x followed by y
+  -- the outcomes of x ++ y are those of x, and then those of `unended x ++ y`
   pub cut : (x y : List ℕ) (n : ℕ) → stream_outcomes (x ++ y) n ≡ stream_outcomes x n ++ stream_outcomes (unended x ++ y) n
-  -- the unended bytes of x ++ y are those of the unended bytes of x followed by y
+  -- x ++ y has the same unended bytes as `unended x ++ y`
   pub left : (x y : List ℕ) → unended (x ++ y) ≡ unended (unended x ++ y)
   -- after a zero, no byte is unended
   pub ended : (x : List ℕ) → unended (x ++ 0 ∷ []) ≡ []
@@ -62,7 +62,8 @@ pub record EncoderLaw : Type 0 where
   pub nothing : (slice : List ℕ) → 0 < length slice → CobsEncoderAfter slice (place_at 0 1 false) []
   -- the progress is possible in the slice
   pub place : (slice m : List ℕ) (reached : Reached) → CobsEncoderAfter slice reached m → IsPlaceIn (length slice) reached
-  -- the length of the frame if these bytes follow m; a stands for any nonzero bytes, as many as the open block has
+  -- the length of the whole frame if these bytes follow m; a is any list of nonzero bytes, as many as the open block
+  -- has after its code
   pub goes_on : (slice m a bytes : List ℕ) (reached : Reached) → CobsEncoderAfter slice reached m → HasNoZero a → length a + 1 ≡ reached.block.code → bytes ≢ [] → encoded_len (m ++ bytes) ≡ reached.block.index + encoded_len (a ++ bytes)
   -- a nonzero byte that doesn't fill the open block is written after the block's other bytes
   pub joins : (slice m : List ℕ) (reached : Reached) (byte : ℕ) → CobsEncoderAfter slice reached m → byte ≢ 0 → reached.block.code < 254 → next_of reached < length slice → CobsEncoderAfter (slice_set slice (next_of reached) byte) (place_at reached.block.index (reached.block.code + 1) false) (m ++ byte ∷ [])
@@ -77,23 +78,25 @@ pub record EncoderLaw : Type 0 where
 
 -- the clause of `law_17`: the steps of a decoder, byte by byte
 pub record DecoderLaw : Type 0 where
-  -- the machine of `Step.antt` takes a byte as `Feeds` says
+  -- the step of `Step.antt` for a byte meets `Feeds`, the contract of `feed`
   pub step : (buffer : List ℕ) (phase : Phase) (byte : ℕ) → let n = length buffer in Feeds buffer phase byte (next_result n phase byte) (next_buffer buffer phase byte) (next_phase n phase byte)
-  -- the machine moves by the table of `DecoderState`, as `FeedsByTable` says
+  -- this step follows the table of `DecoderState`, as `FeedsByTable` says
   pub by_table : (n : ℕ) (phase : Phase) (byte : ℕ) → FeedsByTable n phase byte (next_result n phase byte) (next_phase n phase byte)
   -- if no bytes are fed, no piece ends, and nothing changes
   pub nothing : (buffer : List ℕ) (phase : Phase) → TakesPiece buffer phase [] None buffer phase
-  -- if no piece ended in the first i bytes, and the next byte ends none, no piece ended in the first i + 1 bytes
+  -- if no piece ended in the first i bytes, and the next byte doesn't end a piece, no piece ended in the first i + 1
+  -- bytes
   pub byte : (bytes buffer between buffer' : List ℕ) (phase phase_between phase' : Phase) (result : Result (Option ℕ) DecodeError) (i : ℕ) → i < length bytes → TakesPiece buffer phase (take i bytes) None between phase_between → Feeds between phase_between (slice_index bytes i) result buffer' phase' → (slice_index bytes i ≡ 0 → end_reported result ≡ None) → TakesPiece buffer phase (take (i + 1) bytes) None buffer' phase'
-  -- if no piece ended in the first i bytes, and the next byte is a zero that ends one, `feed_piece` stops after this zero
+  -- if no piece ended in the first i bytes, and the next byte is a zero that ends a piece, `feed_piece` stops after this
+  -- zero
   pub end : (bytes buffer between buffer' : List ℕ) (phase phase_between phase' : Phase) (result : Result (Option ℕ) DecodeError) (end : PieceEnd) (i : ℕ) → i < length bytes → TakesPiece buffer phase (take i bytes) None between phase_between → Feeds between phase_between (slice_index bytes i) result buffer' phase' → slice_index bytes i ≡ 0 → end_reported result ≡ Some end → TakesPiece buffer phase bytes (Some (end, i + 1)) buffer' phase'
 
 -- the clause of `law_18`: the results of the streaming decoders for a frame. In the fields about `feed_piece` and `push`
 -- the decoder is idle. In the fields `fed`, `taken` and `pushed` the message fits the buffer.
 pub record FrameLaw : Type 0 where
-  -- the zero after a frame of m, whose bytes were fed: the result is the length of m, and the buffer begins with m
+  -- `feed` of the zero after a fed frame of m returns the length of m, and the buffer then begins with m
   pub fed : (buffer buffer' f m : List ℕ) (phase phase' : Phase) (result : Result (Option ℕ) DecodeError) → Feeds buffer phase 0 result buffer' phase' → DecoderAfter buffer phase f → Reads f m → length m ≤ length buffer → (result ≡ Ok (Some (length m))) × (take (length m) buffer' ≡ m)
-  -- the zero after bytes that were fed: if the result is a length, the bytes are a frame of the message in the buffer
+  -- if `feed` of the zero after some fed bytes returns a length, these bytes are a frame of the message in the buffer
   pub fed_only : (buffer buffer' f : List ℕ) (phase phase' : Phase) (n : ℕ) → Feeds buffer phase 0 (Ok (Some n)) buffer' phase' → DecoderAfter buffer phase f → All (λ byte. byte < 256) f → Reads f (take n buffer')
   -- `feed_piece` of a frame of m, a zero and more bytes stops after the zero, and returns the length of m
   pub taken : (buffer buffer' f more m : List ℕ) (phase phase' : Phase) (result : Option (PieceEnd × ℕ)) → TakesPiece buffer phase (f ++ 0 ∷ more) result buffer' phase' → phase ≡ Idle → Reads f m → length m ≤ length buffer → (result ≡ Some (Message (length m), length f + 1)) × (take (length m) buffer' ≡ m)

@@ -7,9 +7,9 @@ use Rattle.cobs.specs.Stream.{stretches}
 abbrev pub runs : List ℕ → List ℕ
 runs m = map length (stretches m)
 
--- the number of blocks of a message's encoded frame minus the number of the message's runs, given the lengths of the
--- runs. A run of L bytes adds L / 254, rounded down. The last run adds only (L - 1) / 254, because a full block at the
--- end of a frame needs no block after it.
+-- the number of blocks of a message's encoded frame, minus the number of runs of the message. The argument lists the
+-- lengths of the runs. A run of L bytes adds L / 254, rounded down. The last run adds only (L - 1) / 254, because a
+-- full block at the end of a frame needs no block after it.
 abbrev pub full_blocks : List ℕ → ℕ
 full_blocks [] = 0
 full_blocks (run ∷ []) = (run - 1) / 254

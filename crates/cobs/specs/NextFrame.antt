@@ -47,8 +47,8 @@ IsReadOf before (Some bytes) after = (length bytes ≤ 64) × Consumes before af
 
 -- WHEN ANOTHER READ IS MADE
 
--- after these reads the call makes another read: there are fewer than 65,536 reads, each of them returned bytes, and no
--- piece ends in the stream that consists of the front and the bytes of the reads
+-- after these reads the call makes another read, because three conditions hold: there are fewer than 65,536 reads, each
+-- of them returned bytes, and no piece ends in the stream that consists of the front and the bytes of the reads
 pub record CallsForMore (front : List ℕ) (n : ℕ) (reads : List Read) : Type 0 where
   pub few : length reads < 65536
   pub gave : All GaveBytes reads

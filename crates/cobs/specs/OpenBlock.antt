@@ -18,8 +18,8 @@ EncoderAfter state m = (f : List ℕ) × IsOpenFrame f m state.index state.code
 abbrev pub AgreeOutside : ℕ → List ℕ → List ℕ → Type 0
 AgreeOutside i f g = (x : ℕ) × (g ≡ slice_set f i x)
 
--- g is the output of a caller that has made all changes for the message m: an open frame of m whose last block is this
--- open block, except that the byte at the block's index may differ
+-- g is the output of a caller that has made all changes for the message m. It is an open frame of m whose last block is
+-- this open block, except that the byte at the block's index may differ.
 abbrev pub IsOpenOutput : List ℕ → OpenBlock → List ℕ → Type 0
 IsOpenOutput g state m = (f : List ℕ) × IsOpenFrame f m state.index state.code × AgreeOutside state.index f g
 
@@ -36,8 +36,8 @@ next_open state byte =
     if byte == 0 then record { index = state.index + state.code; code = 1 }
     else (if state.code == 254 then record { index = state.index + 255; code = 1 } else record { index = state.index; code = state.code + 1 })
 
--- the output g after the caller has made the change that a result says; x is the new placeholder, if the change appends
--- one
+-- the output g after the caller has made the change that a result describes; x is the new placeholder, if the change
+-- appends one
 abbrev pub applied : List ℕ → PushResult → ℕ → List ℕ
 applied g (AddSingle b) x = g ++ b ∷ []
 applied g (ModifyFromStartAndSkip (i, c)) x = slice_set g i c ++ x ∷ []
@@ -63,8 +63,8 @@ abbrev pub end_of : Reached → ℕ
 end_of reached = if reached.full then reached.block.index else next_of reached
 
 -- the index at which the encoded frame ends after these bytes are appended to the message. The blocks before the open
--- block don't change. From the open block on, the frame is as long as a frame of the open block's bytes followed by
--- these bytes.
+-- block don't change. From the open block on, the frame is as long as the frame of a message that consists of the open
+-- block's bytes and then these bytes.
 abbrev pub end_after : Reached → List ℕ → ℕ
 end_after reached [] = end_of reached
 end_after reached (byte ∷ bytes) = reached.block.index + open_len reached.block.code (byte ∷ bytes)

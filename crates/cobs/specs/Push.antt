@@ -34,8 +34,8 @@ error_outcomes (InvalidFrame count) = Broken count ∷ []
 error_outcomes TargetBufTooSmall = TooLong ∷ []
 
 -- the outcomes that the result of a push reports, a list of at most one outcome. A report stands for the message at the
--- front of the buffer. An error stands for the outcome of the piece that has ended if the last byte consumed is a zero,
--- and otherwise for no outcome.
+-- front of the buffer. If the last byte consumed is a zero, an error stands for the outcome of the piece that this zero
+-- ended. Otherwise an error stands for no outcome.
 abbrev pub pushed_outcomes : List ℕ → Result (Option DecodeReport) PushError → List ℕ → List Outcome
 pushed_outcomes bytes (Ok None) buffer = []
 pushed_outcomes bytes (Ok (Some report)) buffer = Message (take (frame_size_of report) buffer) ∷ []
@@ -60,8 +60,8 @@ last_result (Err failure) = Err failure.error
 -- a push of the bytes changes the decoder's buffer and phase to `buffer'` and `phase'`, and has this result
 pub record PushesBytes (buffer : List ℕ) (phase : Phase) (bytes : List ℕ)
     (result : Result (Option DecodeReport) PushError) (buffer' : List ℕ) (phase' : Phase) : Type 0 where
-  -- `feed` returns `Ok(None)` for each byte that was consumed, except for the last one, for which it returns the result
-  -- of the push
+  -- `feed` returns `Ok(None)` for each byte that was consumed, except for the last one. For the last byte it returns
+  -- the result of the push.
   pub push_returns : (p : List ℕ) → PhaseAfter (length buffer) phase p → (place : ℕ) → place < consumed_size bytes result
       → result_for (unended (p ++ take place bytes)) (slice_index bytes place) (length buffer)
       ≡ (if place + 1 == consumed_size bytes result then last_result result else Ok None)

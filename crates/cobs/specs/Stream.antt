@@ -4,8 +4,8 @@ use Rattle.std.specs.List.{slice_split}
 use Rattle.cobs.specs.Grammar.{last_of}
 use Rattle.cobs.specs.Piece.{output, is_whole}
 
--- the lists into which its zeros cut a list: the bytes before the first zero, between two neighbouring zeros, and after
--- the last zero. Each of these lists may be empty.
+-- the lists that result if a list is cut at its zeros: the bytes before the first zero, between two neighbouring zeros,
+-- and after the last zero. Each of the resulting lists may be empty.
 abbrev pub stretches : List ℕ → List (List ℕ)
 stretches t = slice_split (λ byte. byte == 0) t
 
@@ -14,7 +14,7 @@ abbrev pub is_nonempty : List ℕ → Bool
 is_nonempty [] = false
 is_nonempty (byte ∷ bytes) = true
 
--- all of some lists except the last list
+-- all these lists except the last one
 unfoldable pub but_last : List (List ℕ) → List (List ℕ)
 but_last [] = []
 but_last (xs ∷ []) = []

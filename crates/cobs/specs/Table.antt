@@ -48,8 +48,8 @@ state_after (byte ∷ bytes) =
     let part = last_part (byte ∷ bytes) in
     if is_full part then GrabChain (missing part) else Grab (missing part)
 
--- this is the state after the front p of a piece was fed, and `so_far` is the list of the bytes of the message that the
--- results so far contained: the output of p
+-- this is the state after the front p of a piece was fed, and `so_far` lists the bytes of the message that were in the
+-- results so far: the output of p
 pub record StateAfter (state : DecoderState) (p so_far : List ℕ) : Type 0 where
   pub piece : HasNoZero p
   pub bytes : All (λ byte. byte < 256) p

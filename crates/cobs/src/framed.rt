@@ -214,7 +214,7 @@ pub struct FrameReader<D: FrameDecoder> {
     ghost ordered: { start ≤ end },
     ghost in_chunk: { end ≤ 64 },
 
-    /// There is a front `p` of a piece that the decoder has been fed, and `unfinished` says whether `p` has a byte.
+    /// The decoder has been fed some front `p` of a piece, and `unfinished` says whether `p` has at least one byte.
     ghost has_taken: { ∥ ((p : List ℕ) × DecoderHasTaken (D.bytes decoder)
         (D.phase decoder) unfinished p) ∥₁ },
 }

@@ -30,12 +30,12 @@ pub use coders::{law_15, law_16, law_17, law_18, law_19, law_20, law_21};
 
 /// A frame reads as its output.
 ///
-/// The output of a list of bytes is the message that its blocks stand for, even if the last block isn't complete. A list of
-/// bytes reads as this message, and as no other, if three conditions hold: the list isn't empty, it contains no zero, and its
-/// last block is complete. Any other list reads as no message. The output is never longer than the list, and never gets
-/// shorter if a byte is appended.
+/// The output of some bytes is the message that their blocks stand for, even if the last block isn't complete. The bytes read
+/// as this message, and as no other, if three conditions hold: there is at least one byte, no byte is a zero, and the last
+/// block is complete. Otherwise the bytes read as no message. The output is never longer than the bytes, and never gets shorter
+/// if a byte is appended.
 ///
-/// By this law, a decoder accepts exactly the frames if it goes from code to code and checks that the last block is complete.
+/// So a decoder that only checks whether the last block is complete accepts every frame, and rejects every other piece.
 ///
 /// ```
 /// fn is_output(piece: &[u8], message: &[u8], buffer: &mut [u8]) -> bool
@@ -60,7 +60,7 @@ pub fn law_1()
 /// Each message has exactly one encoded frame, so all encoders that write the encoded frame of a message write the same bytes.
 /// A program can compare encoded frames instead of messages, for example to find a message in a store or to check a signature.
 /// The length of the encoded frame (`encoded_len`) decides whether `try_encode` and `CobsEncoder` accept the message. In the
-/// clauses, messages and frames are lists of numbers. If all numbers of a message are bytes, so are those of its encoded frame.
+/// clauses, messages and frames are lists of numbers. If a message has only bytes, its encoded frame has only bytes too.
 ///
 /// ```
 /// fn encode_again(message: &[u8], frame: &[u8], dest: &mut [u8]) -> usize
@@ -289,9 +289,9 @@ pub fn law_9()
 
 /// Damage stays between its sentinels.
 ///
-/// If bytes between two sentinels are changed, lost or added, the outcomes before the first sentinel and after the second
-/// sentinel are unchanged, even if the damage adds sentinels. If the bytes between the two sentinels contain no sentinel, they
-/// are one piece, which has one outcome. If the two sentinels are adjacent, there is no piece between them.
+/// If bytes between two sentinels are changed, lost or added, the pieces before the first sentinel and after the second
+/// sentinel keep their outcomes, even if the damage adds sentinels. One or more bytes between the two sentinels are one piece,
+/// with one outcome, if none of them is a sentinel. If the two sentinels are adjacent, there is no piece between them.
 ///
 /// So a receiver on a noisy line, or a reader of a damaged file of records, loses only the messages that the damage touches.
 ///
@@ -346,14 +346,14 @@ pub fn law_11()
         → outcome_of f n ≡ Message m }
 {}
 
-/// A stream's first piece, and its last.
+/// The first and the last piece of a stream.
 ///
-/// If a stream begins with a nonzero byte, its first piece consists of the bytes before the first zero. In a buffer of the
-/// stream's length, the outcome of the first piece is a message exactly if the piece reads as that message. Zeros before the
-/// first piece are skipped: the first piece begins after these zeros, and ends at the next zero or at the end of the stream. A
-/// stream that is empty, or that has only zeros, has no piece. If the first `n` bytes contain no zero, and a zero or the end of
-/// the stream follows them, these `n` bytes are the bytes before the first zero (`head`). The same holds for any other sentinel
-/// (`head_for`). As long as no piece has ended, the unended bytes are the last piece, and the next zero ends this piece.
+/// If a stream begins with a nonzero byte, its first piece consists of the bytes before the first zero. In a buffer as long as
+/// the stream, the outcome of the first piece is the message m exactly if the piece reads as m. Zeros before the first piece
+/// are skipped: the piece begins after these zeros, and ends at the next zero or at the end of the stream. A stream that is
+/// empty, or that has only zeros, has no piece. If a search stops at the first zero, or at the end of the stream, it has found
+/// all bytes before the first zero (`head`). The same is true for any other sentinel (`head_for`). As long as no piece has
+/// ended, the unended bytes are the last piece, and the next zero ends this piece.
 ///
 /// So `decode`, with a buffer as long as the source, and `decode_in_place` agree about a source that begins with a nonzero
 /// byte: both return the same message, or both return an error.
@@ -424,7 +424,7 @@ pub fn law_13()
         → end_of reached ≡ encoded_len m }
 {}
 
-/// A decoder has been fed nothing of a piece exactly if it is idle.
+/// A decoder is idle exactly if no piece has begun.
 ///
 /// So [`FrameReader::new`](crate::FrameReader::new) accepts a decoder that was last fed a zero. One `push` of a frame and its
 /// zero to a new decoder decodes the frame.

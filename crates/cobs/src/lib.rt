@@ -5,9 +5,10 @@
 //! serial line or in a file. If a frame is damaged, the receiver waits for the next sentinel and reads the frame after
 //! that sentinel. A frame is a list of blocks. A block is a code followed by up to 254 nonzero bytes. The code is the
 //! length of the block in bytes, including the code itself. The boundary of two blocks stands for a zero of the
-//! message, unless the first block is full: its code is then 255. The frame of a message of up to 254 bytes is one byte
-//! longer than the message. The frame of a longer message of `n` bytes has at most `n / 254` extra bytes, rounded up.
-//! The format is that of the paper "Consistent Overhead Byte Stuffing" by Stuart Cheshire and Mary Baker.
+//! message, unless the first of these two blocks is full. A block with the code 255 is full: 254 nonzero bytes follow
+//! its code. The frame of a message of up to 254 bytes is one byte longer than the message. The frame of a longer
+//! message, of `n` bytes, is at most `n / 254` (rounded up) bytes longer than the message. The format is that of the
+//! paper "Consistent Overhead Byte Stuffing" by Stuart Cheshire and Mary Baker.
 //!
 //! This example encodes a message, and then decodes the frame:
 //!
@@ -118,8 +119,8 @@ pub use find::{leading_zeros, len_to_zero};
 pub use framed::{FrameReader, FrameSource, Next, ReadFault, Recorded};
 pub use stream::{FrameOutcome, decode_stream, encode_frames, encode_frames_room};
 
-/// Returns the greatest overhead, in bytes, of an encoded frame of a message of `source_len` bytes. The overhead of a
-/// frame is its length minus the length of its message.
+/// Returns the greatest overhead, in bytes, that the encoded frame of a message of `source_len` bytes can have. The
+/// overhead of a frame is its length minus the length of its message.
 ///
 /// The greatest overhead is `source_len / 254`, rounded up, or 1 if the message is empty. A message without zeros has
 /// this overhead: its frame has one code for each group of up to 254 bytes, and at least one code. Sentinels before and
@@ -142,7 +143,8 @@ pub fn max_encoding_overhead(source_len: usize) -> usize
 /// Returns the length in bytes of the longest encoded frame that a message of `source_len` bytes can have. A buffer of
 /// this length has room for the frame of any message of `source_len` bytes. Sentinels aren't counted.
 ///
-/// Precondition: the length of the longest frame fits a `usize`. It does for every `source_len` up to `isize::MAX`.
+/// Precondition: the length of the longest frame fits a `usize`. This is true for every `source_len` up to
+/// `isize::MAX`.
 ///
 /// ```
 /// assert_eq!(rt; max_encoding_length(0), 1);

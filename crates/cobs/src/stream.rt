@@ -1,10 +1,10 @@
 //! Calls for whole streams: `decode_stream` decodes all pieces that end in the next bytes of a stream, and
 //! `encode_frames` encodes several messages.
 //!
-//! A stream is cut at its zeros. The bytes between two neighbouring zeros are a piece, unless the zeros are adjacent.
-//! Each piece is decoded separately: a piece is a frame, breaks off inside a block, or decodes to more bytes than the
-//! buffer has room for. So damage to one piece has no effect after the next zero. (The rule that a zero ends each frame
-//! is from Cheshire and Baker's paper; how broken and too long pieces are reported is a choice of this library.)
+//! A stream is cut at its zeros. One or more bytes between a zero and the next zero are a piece. Each piece is decoded
+//! separately: a piece is a frame, breaks off inside a block, or decodes to more bytes than the buffer has room for. So
+//! damage to one piece has no effect after the next zero. (The rule that a zero ends each frame is from Cheshire and
+//! Baker's paper; how broken and too long pieces are reported is a choice of this library.)
 ghost use Rattle.std.specs.Prelude.{◌≡◌, ℕ, ◌+◌, ◌<◌, ◌≤◌, ◌^◌, List, [], ◌++◌, All, length, map, take, option_to_list, IfOk, IfSome, IsOk, IsSome, ◌↔◌, OnOk, OnErr, Contains};
 ghost use Rattle.cobs.specs.Feed.{DecoderAfter, PhaseAfter};
 ghost use Rattle.cobs.specs.Length.{max_encoded_len};
@@ -125,8 +125,8 @@ pub fn decode_stream<D: FrameDecoder>(
 /// An idle decoder whose buffer has room for each of these messages decodes the stream to exactly these messages. If
 /// there are no messages, the stream is empty.
 ///
-/// Precondition: [`encode_frames_room`] of the messages isn't `None`. Memory is allocated once, for as many bytes as
-/// [`encode_frames_room`] returns.
+/// Precondition: [`encode_frames_room`] returns a number for the messages, not `None`. Memory is allocated once, for as
+/// many bytes as [`encode_frames_room`] returns.
 ///
 /// # Errors
 /// `AllocError` if memory runs out.

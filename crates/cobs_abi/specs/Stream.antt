@@ -24,15 +24,15 @@ pub record ReportsIdle (decoder : UnbufferedDecoder) (result : ℕ) : Type 0 whe
   pub idle : phase_of decoder ≡ Idle → result ≡ 1
   pub open_piece : phase_of decoder ≢ Idle → result ≡ 0
 
--- `jcobs_decoder_push`, `jcobs_decoder_feed` of one byte, and `jcobs_decoder_push_with_sentinel` of bytes that are
--- XORed with the sentinel: the decoder consumes the bytes up to and including the zero that ends the first piece, or
--- all bytes if no piece ends
+-- `jcobs_decoder_push`; `jcobs_decoder_feed` of one byte; `jcobs_decoder_push_with_sentinel` of bytes that are XORed
+-- with the sentinel. The decoder consumes the bytes up to and including the zero that ends the first piece, or all
+-- bytes if no piece ends
 pub record DecodesNext (decoder : UnbufferedDecoder) (buffer bytes : List ℕ) (result : Answer) (decoder' : UnbufferedDecoder) (buffer' : List ℕ) : Type 0 where
   pub takes : TakesPiece buffer (phase_of decoder) bytes (piece_end_of result) buffer' (phase_of decoder')
   pub more : result.status ≡ MORE
       → result ≡ record { status = MORE; consumed = length bytes; length = held (length buffer) (phase_of decoder') }
   pub too_small : result.status ≡ TOO_SMALL → result.length ≡ length buffer
-  -- in every state, even a corrupt one
+  -- the remaining fields hold in every state, even a corrupt one
   pub status : result.status ≤ BROKEN
   pub consumed : result.consumed ≤ length bytes
   pub bound : result.length ≤ length buffer
@@ -51,7 +51,7 @@ pub record EncodesNext (encoder : UnbufferedEncoder) (buffer bytes : List ℕ) (
   pub taken : result.status ≡ OK → (m : List ℕ) → CobsEncoderAfter buffer (reached_by encoder) m
       → CobsEncoderAfter buffer' (reached_by encoder') (m ++ bytes)
   pub counted : result.status ≡ OK → (m : List ℕ) → CobsEncoderAfter buffer (reached_by encoder) m → result.length ≡ encoded_len (m ++ bytes)
-  -- in every state, even a corrupt one
+  -- the remaining fields hold in every state, even a corrupt one
   pub returned : result.status ≡ OK
       → result ≡ record { status = OK; consumed = length bytes; length = end_of (reached_by encoder') }
   pub too_small : result.status ≢ OK → result ≡ record { status = TOO_SMALL; consumed = 0; length = 0 }
@@ -66,7 +66,7 @@ pub record EncodesNext (encoder : UnbufferedEncoder) (buffer bytes : List ℕ) (
 pub record Finishes (added : ℕ) (IsWanted : List ℕ → List ℕ → Type 0) (encoder : UnbufferedEncoder) (buffer : List ℕ) (result : Answer) (encoder' : UnbufferedEncoder) (buffer' : List ℕ) : Type 0 where
   pub writes : (m : List ℕ) → CobsEncoderAfter buffer (reached_by encoder) m
       → Writes (encoded_len m + added) 0 (λ bytes. IsWanted bytes m) buffer result buffer'
-  -- in every state, even a corrupt one
+  -- the remaining fields hold in every state, even a corrupt one
   pub place : result.status ≡ OK → result.length ≡ end_of (reached_by encoder) + added
   pub fresh : result.status ≡ OK → IsFreshEncoder encoder'
   pub too_small : result.status ≢ OK → result ≡ record { status = TOO_SMALL; consumed = 0; length = 0 }

@@ -1,7 +1,7 @@
 -- Lemmas on the bytes before a buffer's first sentinel, which are decoded in their own place. By clauses of `law_6`
 -- and `law_12`, the result and the buffer are those for the whole buffer (`front-result`, `front-buffer`).
 -- `law_6`: No frame contains its sentinel; a second XOR restores the frame.
--- `law_12`: A stream's first piece, and its last.
+-- `law_12`: The first and the last piece of a stream.
 use Rattle.std.proofs.Common.{◌≡◌, ◌≢◌, ◌∙◌, ◌⊎◌, inl, inr, ◌++◌, ◌+◌, ◌<◌, ◌≤◌, ℕ, List, [], ◌∷◌, All, length, take, drop, min, get_or, refl, sym, ap, subst, arith, take_all, length-take-le}
 use Rattle.std.proofs.lemmas.List.{length-map}
 use Rattle.std.specs.Int.Bits.{bit_xor}

@@ -1,7 +1,7 @@
 -- Lemmas on the first piece of a source. By clauses of `law_12`, the ends of the leading zeros and of the piece
 -- determine the piece (`first_none`, `first_some`). `result-some` is about the result of `decode` for this piece, and
 -- `short-decodes` about the result of the call for the source of a short frame. `law_1`: A frame reads as its output.
--- `law_12`: A stream's first piece, and its last.
+-- `law_12`: The first and the last piece of a stream.
 use Rattle.std.proofs.Common.{◌≡◌, ◌≢◌, ◌∙◌, ◌<◌, ◌≤◌, ℕ, zero, suc, List, [], ◌∷◌, length, take, drop, get_or, Some, None, Result, Ok, Err, refl, sym, ap, subst, arith}
 use Rattle.cobs.specs.Grammar.{HasNoZero}
 use Rattle.cobs.specs.Decode.{IsShortPiece, first_output, leading_zeros, len_through_piece, result_of_decode, report_result, outcome_result}

@@ -27,7 +27,7 @@ fn first_sentinel(bytes: &[u8], sentinel: u8) -> usize
 fn head_end(bytes: &[u8], sentinel: u8) -> usize
     ensures end { result ≡ head_end (xor_each sentinel bytes.now) }
 {
-    law_12(); // A stream's first piece, and its last
+    law_12(); // The first and the last piece of a stream
     let end = first_sentinel(bytes, sentinel);
     if end < bytes.len() { end + 1 } else { end }
 }
@@ -40,7 +40,7 @@ fn first_piece_end(source: &[u8]) -> Option<usize>
         (λ end. (p : List ℕ) × (first_piece source.now ≡ Some p)
         × (end ≡ len_through_piece source.now p) × (length p ≤ length source.now)) }
 {
-    law_12(); // A stream's first piece, and its last
+    law_12(); // The first and the last piece of a stream
     let start = leading_zeros(source);
     let rest = &source[start..];
     let len = first_sentinel(rest, 0);
@@ -95,7 +95,7 @@ pub extern "C" fn jcobs_decode(source: &[u8], message: &mut [u8]) -> Answer
     ensures decodes { Decodes source.now message.old result message.new }
 {
     law_1(); // A frame reads as its output
-    law_12(); // A stream's first piece, and its last
+    law_12(); // The first and the last piece of a stream
     let room = message.len();
     // The source of a short frame consists of the frame and perhaps a zero, so all its bytes are consumed.
     match decode_short(source, message) {
@@ -148,7 +148,7 @@ fn decode_long_in_place(buffer: &mut [u8], consumed: &mut usize) -> (u32, usize)
         record { status = result.0; consumed = consumed.new; length = result.1 } buffer.new }
 {
     law_1(); // A frame reads as its output
-    law_12(); // A stream's first piece, and its last
+    law_12(); // The first and the last piece of a stream
     let room = buffer.len();
     let returned = match cobs::decode_in_place_report(buffer) {
         Ok(report) => {
@@ -156,8 +156,8 @@ fn decode_long_in_place(buffer: &mut [u8], consumed: &mut usize) -> (u32, usize)
             result_by(consumed, room, Ok(report.frame_size()))
         }
         Err(DecodeError::InvalidFrame { decoded_bytes }) => {
-            // The frame is longer than the decoded bytes, and the buffer hasn't changed after the decoded bytes. So the
-            // search for the frame's end can begin after them.
+            // The first `decoded_bytes` bytes of the buffer are output, and the bytes after them are as they were. The
+            // output is shorter than the frame, so the search for the frame's end can begin after the output.
             let end = decoded_bytes + first_sentinel(&buffer[decoded_bytes..], 0);
             let error = DecodeError::InvalidFrame { decoded_bytes };
             result_by(with_zero(end, room), room, Err(error))
@@ -193,7 +193,7 @@ pub extern "C" fn jcobs_decode_in_place_with_sentinel(buffer: &mut [u8], sentine
     ensures decodes { DecodesInPlaceFor sentinel buffer.old result buffer.new }
 {
     law_6(); // No frame contains its sentinel; a second XOR restores the frame
-    law_12(); // A stream's first piece, and its last
+    law_12(); // The first and the last piece of a stream
     let room = buffer.len();
     let end = first_sentinel(buffer, sentinel);
     // A leading sentinel is read as an empty message.

@@ -161,7 +161,7 @@ pub fn encode_for_stream(message: &[u8], dest: &mut [u8]) -> usize
 pub fn begins_with_piece(stream: &[u8]) -> bool
     ensures { IsTrue result → first_piece stream.now ≡ Some (head stream.now) }
 {
-    law_12(); // A stream's first piece, and its last
+    law_12(); // The first and the last piece of a stream
     match stream {
         [] | [0, ..] => false,
         _ => true,
@@ -182,7 +182,7 @@ pub fn as_encoded<'a>(frame: &'a [u8], message: &[u8], index: usize, code: u8) -
 pub fn reader_after_zero(mut decoder: CobsDecoderOwned) -> FrameReader<CobsDecoderOwned>
     ensures { kept_of result ≡ [] }
 {
-    law_14(); // A decoder has been fed nothing of a piece exactly if it is idle
+    law_14(); // A decoder is idle exactly if no piece has begun
     let _ended = decoder.feed(0);
     FrameReader::new(decoder)
 }
@@ -226,7 +226,7 @@ pub fn end_frame(decoder: &mut CobsDecoderOwned) -> Result<Option<usize>, Decode
         → Reads f m → length m ≤ length (owned_buffer decoder.old)
         → result ≡ Ok (Some (length m)) }
 {
-    law_18(); // A frame is decoded as its message however it is streamed, and nothing else is
+    law_18(); // Streaming decoders return the message of each frame, and no other message
     decoder.feed(0)
 }
 

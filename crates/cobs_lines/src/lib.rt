@@ -1,5 +1,5 @@
 //! The code that the programs `cobs_tool` and `cobs_watch` share: the lines that they print for the pieces of a stream,
-//! and a source of bytes that are in memory.
+//! and a source that reads its bytes from memory.
 #![tactic(auto)]
 
 mod lines;

@@ -6,8 +6,8 @@ use Rattle.cobs_live.specs.declared.input.Came.{Came}
 use Rattle.cobs_live.specs.declared.input.Came.TheVariants.{Bytes, HungUp}
 
 -- a read: the bytes in the output's buffer when the read began; the bytes that had been written to the output by then,
--- if they are known; and the result. If the line may hang up, the result has a byte as `Some` and a hang-up as `None`.
--- The result of a failed read is empty.
+-- if they are known; and the result. If the line may hang up, the result lists each byte as `Some`, and a hang-up as
+-- `None`. The result of a failed read is empty.
 pub record Read (A : Type 0) : Type 0 where
   pub back : List ℕ
   pub written : Option (List ℕ)

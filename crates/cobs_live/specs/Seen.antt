@@ -101,7 +101,7 @@ abbrev pub mark_if_any : List ℕ → List ℕ
 mark_if_any [] = []
 mark_if_any (byte ∷ bytes) = codes " partial"
 
--- the word before the bytes of a piece of this kind, if they are no message
+-- the word before the decoded bytes of a broken or too long piece; nothing for the other kinds
 abbrev pub mark : Kind → List ℕ → List ℕ
 mark Message bytes = []
 mark Broken bytes = mark_if_any bytes

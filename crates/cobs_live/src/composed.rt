@@ -90,11 +90,15 @@ impl Composed {
         ROOM - LINE - 2 * SHORT_LEN < self.len
     }
 
-    /// Adds the text of a piece and returns true, or adds nothing and returns false. It returns true only if three
-    /// conditions hold: the piece is a short message; its text fits; and the view shows raw messages without numbers,
-    /// or digits without colours, numbers and times. If the view's filter hides the message, its text is empty. The
-    /// text is written later, so one write can contain the text of many messages. The text has no number and no time, so
-    /// the clause `kept` is true for every `number` and all `times`.
+    /// Adds the text of a piece and returns true, or adds nothing and returns false. It returns true only if all these
+    /// conditions hold:
+    ///
+    /// - The piece is a short message, and its text fits.
+    /// - The view shows raw messages without numbers, or digits without colours, numbers and times.
+    ///
+    /// If the view's filter hides the message, its text is empty. The text is written later, so one write can contain
+    /// the text of many messages. The text has no number and no time, so the clause `kept` is true for every `number`
+    /// and all `times`.
     #[inline(always)]
     pub fn keep(&mut self, view: &View, piece: &Sight<'_>) -> bool
         ensures kept { IsTrue result → (number : ℕ) (times : Times) → take self.new.len self.new.bytes
@@ -174,8 +178,8 @@ impl Composed {
 
     /// Adds a message with this number, without colour and time, if the style is `Json`. For other styles, `put_message`
     /// returns `Full`, and the caller writes the text directly. The text has no time, so the clause `put` is true for all
-    /// `times`. [`compose`](Composed::compose) has already tested the style. The style is matched again, so that the
-    /// clause is true for every style, as the definition `styled` needs it.
+    /// `times`. [`compose`](Composed::compose) has already tested the style. The style is matched again, because the
+    /// clause `put` is stated for every style.
     #[inline(always)]
     fn put_message(&mut self, style: Style, number: u64, piece: &Sight<'_>) -> Result<(), Full>
         requires message { piece.now.kind ≡ Message }

@@ -85,7 +85,7 @@ fn needs_escape(c: char) -> bool
     is_hidden(c) || c == '"' || c == '\\'
 }
 
-/// Returns the number of characters before the first character that isn't ASCII or needs an escape.
+/// Returns the number of characters before the first character that needs an escape or isn't ASCII.
 fn plain_run(text: &str) -> usize
     ensures boundary { IsCharBoundary text.now result }
     ensures plain { All (λ byte. IsTrue (is_plain_byte byte)) (take result text.now) }

@@ -155,7 +155,7 @@ impl<C: Clock + Drop, O: Opener<R> + Drop, R: Read + Drop, W: Write + Drop> Live
     /// hung up.
     fn read_beside(&mut self, _output: &BufWriter<W>, chunk: &mut [u8]) -> io::Result<Came> {
         self.wait();
-        // The line is open now, unless `wait` has made the greatest number of tries.
+        // The line is open now, unless `wait` has given up after the greatest number of tries.
         let Some(line) = &mut self.line else {
             return Err(ErrorKind::NotConnected.into());
         };

@@ -45,7 +45,8 @@ pub const CHUNK_LEN: usize = 65_536;
 
 /// Shows each piece of the input when the piece's sentinel arrives. At the end of the input, shows `unfinished` if a
 /// piece has begun and not ended. A hang-up of the line doesn't end a piece. After a hang-up, `run_show` shows
-/// `unfinished` in the same case, then shows `hung up`, and skips all bytes up to the next sentinel.
+/// `unfinished` if a piece has begun and not ended. Then it shows `hung up`, and skips all bytes up to the next
+/// sentinel.
 ///
 /// `run_show` calls [`Watch::show_next`] repeatedly. Each call reads once, shows the pieces that ended, and flushes the
 /// output. So all pieces that have ended so far have been written before the program waits for more bytes. Memory is
@@ -160,17 +161,17 @@ impl<'a> Watch<'a> {
     ) -> Result<bool, WatchFault>
         requires some { 0 < length chunk.old }
         requires flushed { writer_buffer output.old ≡ [] }
-        // If all pieces that had ended were shown before the call, this is also true after the call.
+        // If every ended piece was shown before the call, every ended piece is shown after the call.
         ensures shown { (settings : Settings) (from before : Option (List ℕ)) → HasShownSoFar settings from
             (S.remaining input.old) before (W.contents (writer_inner output.old)) self.old
             → ShowsNext settings result from (S.remaining input.new) before
             (W.contents (writer_inner output.new)) self.new }
-        // If all pieces that had ended were shown at each read so far, this is also true at the read of this call.
+        // If every ended piece was shown at each read so far, the same is true at the read of this call.
         ensures live { (settings : Settings) (start : S) (from before : Option (List ℕ))
             → IsLiveSoFar S.step start input.old settings from (S.remaining input.old) before
             (W.contents (writer_inner output.old)) self.old
             → IsLive S.step start input.new (HoldsText settings before) }
-        // If the input continues, the assumption of `live` is also true for the next call.
+        // If the input continues, the next call meets the assumption of `live` too.
         ensures goes_on { IfOk result (λ more. IsTrue more
             → (settings : Settings) (start : S) (from before : Option (List ℕ))
             → IsLiveSoFar S.step start input.old settings from (S.remaining input.old) before
@@ -335,7 +336,7 @@ fn show_bytes<W: Write>(
         (λ fault. (fault ≢ WatchFault.ReadFailed) × (fault ≢ WatchFault.OutOfMemory)) }
 {
     law_9(); // A stream may be cut anywhere
-    law_12(); // A stream's first piece, and its last
+    law_12(); // The first and the last piece of a stream
     let mut composed = Composed::new();
     let mut at = 0;
     'by_part: while at < bytes.len() {

@@ -6,7 +6,7 @@ abbrev pub len_of : Option (List ℕ) → ℕ
 len_of (Some bytes) = length bytes
 len_of None = 0
 
--- nothing was read, or at the last read the text written so far was right for the results of the earlier reads, and had
--- `len` bytes
+-- either nothing was read; or, at the last read, the text written so far had `len` bytes, and was right for the results
+-- of the earlier reads
 abbrev pub IsRightAtLast : {S A : Type 0} → S → S → ℕ → (List (List A) → Option (List ℕ) → Type 0) → Type 0
 IsRightAtLast {A = A} from to len IsRight = (to ≡ from) ⊎ ((gone : List (List A)) × (held : Option (List ℕ)) × IsRight gone held × (len ≡ len_of held))

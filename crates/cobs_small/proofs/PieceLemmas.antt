@@ -1,6 +1,6 @@
 -- Lemmas on the first piece of a source: it is no longer than the source, so a buffer as long as the source is never
 -- too small.
--- `law_12`: A stream's first piece, and its last.
+-- `law_12`: The first and the last piece of a stream.
 use Rattle.std.proofs.Common.{◌≡◌, ◌≢◌, ◌∙◌, ◌<◌, ◌≤◌, ℕ, zero, suc, List, [], ◌∷◌, length, drop, take, slice_index, Option, Some, None, refl, sym, ap, arith, inl, inr, length-drop, length-take-le}
 use Rattle.std.proofs.lemmas.Bool.{cases_eq}
 use Rattle.std.proofs.lemmas.List.Elements.{All-cons, All-nil}

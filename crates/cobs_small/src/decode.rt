@@ -12,7 +12,7 @@ pub extern "C" fn jcobs_decode(source: &[u8], message: &mut [u8]) -> Answer
     ensures decodes { Decodes source.now message.old result message.new }
 {
     law_1(); // A frame reads as its output
-    law_12(); // A stream's first piece, and its last
+    law_12(); // The first and the last piece of a stream
     let Some((end, consumed)) = decode_piece(source, message) else {
         return Answer {
             status: EMPTY,

@@ -10,7 +10,7 @@ use cobs_abi::{Answer, result_by};
 pub extern "C" fn jcobs_decode_in_place(buffer: &mut [u8]) -> Answer
     ensures decodes { DecodesInPlace buffer.old result buffer.new }
 {
-    law_12(); // A stream's first piece, and its last
+    law_12(); // The first and the last piece of a stream
     let room = buffer.len();
     if buffer.is_empty() {
         return result_by(0, room, Err(DecodeError::EmptyFrame));

@@ -35,7 +35,7 @@ use text::fault_line;
 const USAGE: &str = "usage: cobs_tool [show|encode|decode]";
 
 fn main(rt: HostRuntime) -> ExitCode {
-    // A line that can't be written to standard error is lost: the exit status stays the same.
+    // A line that can't be written to standard error is lost, and the exit status stays the same.
     let Some(mode) = mode_of_arguments(&rt) else {
         let _ = eprintln!(rt; "{USAGE}");
         return ExitCode::from(2);

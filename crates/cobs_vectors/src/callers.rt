@@ -84,7 +84,7 @@ pub fn decode_known_short(frame: &[u8], dest: &mut [u8]) -> bool
     requires room { length frame.now ≤ length dest.old + 1 }
     ensures { IsTrue result }
 {
-    law_12(); // A stream's first piece, and its last
+    law_12(); // The first and the last piece of a stream
     decode_short(frame, dest).is_some()
 }
 
@@ -104,7 +104,7 @@ pub fn decode_known_short_in_place(frame: &mut [u8]) -> bool
     requires whole { missing (last_part frame.old) ≡ 0 }
     ensures { IsTrue result }
 {
-    law_12(); // A stream's first piece, and its last
+    law_12(); // The first and the last piece of a stream
     decode_short_in_place(frame).is_some()
 }
 
@@ -113,7 +113,7 @@ pub fn decode_before_zero(buffer: &mut [u8]) -> Result<usize, DecodeError>
     ensures returned { result ≡ head_result (head buffer.old) }
     ensures buffer { buffer.new ≡ in_place buffer.old }
 {
-    law_12(); // A stream's first piece, and its last
+    law_12(); // The first and the last piece of a stream
     let end = len_to_zero(buffer);
     decode_blocks_each(buffer, end)
 }
@@ -136,7 +136,7 @@ pub fn decode_first<'a>(source: &'a [u8], dest: &mut [u8]) -> &'a [u8]
 pub fn skip_zeros<'a>(source: &'a [u8]) -> &'a [u8]
     ensures { first_piece result.now ≡ first_piece source.now }
 {
-    law_12(); // A stream's first piece, and its last
+    law_12(); // The first and the last piece of a stream
     &source[leading_zeros(source)..]
 }
 

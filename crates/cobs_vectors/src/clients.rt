@@ -118,7 +118,7 @@ pub fn on_zero<D: FrameDecoder>(decoder: &mut D) -> usize
         → Reads f m → length m ≤ length (D.bytes decoder.old)
         → BeginsWith (D.bytes decoder.new) result m }
 {
-    law_18(); // A frame is decoded as its message however it is streamed, and nothing else is
+    law_18(); // Streaming decoders return the message of each frame, and no other message
     match decoder.feed_byte(0) {
         Ok(Some(len)) => len,
         Ok(None) => 0,

@@ -24,7 +24,7 @@ pub fn end_piece<D: FrameDecoder>(decoder: &mut D) -> Option<usize>
     ensures { (f : List ℕ) → DecoderAfter (D.bytes decoder.old) (D.phase decoder.old) f
         → All (λ byte. byte < 256) f → IfSome result (λ n. Reads f (take n (D.bytes decoder.new))) }
 {
-    law_18(); // A frame is decoded as its message however it is streamed, and nothing else is
+    law_18(); // Streaming decoders return the message of each frame, and no other message
     match decoder.feed_byte(0) {
         Ok(Some(len)) => Some(len),
         Ok(None) => None,
@@ -41,7 +41,7 @@ pub fn read_piece<D: FrameDecoder>(decoder: &mut D, ended: &[u8], piece: &[u8]) 
     ensures { (m : List ℕ) → (IsSomeAnd result (λ n. BeginsWith (D.bytes decoder.new) n m)
         ↔ (Reads piece.now m × (length m ≤ length (D.bytes decoder.old)))) }
 {
-    law_18(); // A frame is decoded as its message however it is streamed, and nothing else is
+    law_18(); // Streaming decoders return the message of each frame, and no other message
     match decoder.feed_piece(ended) {
         Some((PieceEnd::Message(len), _)) => Some(len),
         Some((PieceEnd::Broken(_), _)) => None,
@@ -59,7 +59,7 @@ pub fn end_of<D: FrameDecoder>(decoder: &mut D, ended: &[u8], piece: &[u8]) -> P
     ensures { outcome_at result (D.bytes decoder.new)
         ≡ outcome_of piece.now (length (D.bytes decoder.old)) }
 {
-    law_18(); // A frame is decoded as its message however it is streamed, and nothing else is
+    law_18(); // Streaming decoders return the message of each frame, and no other message
     // The last byte of `ended` is a zero, which ends the piece, so the result is never `None`.
     match decoder.feed_piece(ended) {
         Some((end, _)) => end,
@@ -78,9 +78,9 @@ pub fn salvage<D: FrameDecoder>(decoder: &mut D, received: &[u8]) -> Option<(Pie
         → D.bytes decoder.new ≡ overwritten (D.bytes decoder.old) (output piece) }
 {
     law_9(); // A stream may be cut anywhere
-    law_12(); // A stream's first piece, and its last
-    law_14(); // A decoder has been fed nothing of a piece exactly if it is idle
-    law_18(); // A frame is decoded as its message however it is streamed, and nothing else is
+    law_12(); // The first and the last piece of a stream
+    law_14(); // A decoder is idle exactly if no piece has begun
+    law_18(); // Streaming decoders return the message of each frame, and no other message
     decoder.feed_piece(received)
 }
 
@@ -92,7 +92,7 @@ pub fn push_reads_unbuffered(ended: &[u8], piece: &[u8], dest: &mut [u8]) -> Opt
     ensures { (m : List ℕ) → (IsSomeAnd result (λ n. BeginsWith dest.new n m)
         ↔ (Reads piece.now m × (length m ≤ length dest.old))) }
 {
-    law_18(); // A frame is decoded as its message however it is streamed, and nothing else is
+    law_18(); // Streaming decoders return the message of each frame, and no other message
     match UnbufferedDecoder::new().push(dest, ended) {
         Ok(Some(report)) => Some(report.frame_size()),
         Ok(None) => None,
@@ -183,7 +183,7 @@ pub fn between_reads_as(sentinel: u8, between: &[u8], message: &[u8], buffer: &m
 pub fn before_sentinel(received: &[u8], sentinel: u8) -> &[u8]
     ensures { xor_each sentinel result.now ≡ head (xor_each sentinel received.now) }
 {
-    law_12(); // A stream's first piece, and its last
+    law_12(); // The first and the last piece of a stream
     'by_byte: for (at, byte) in received.iter().enumerate() {
         if *byte == sentinel {
             return &received[..at];

@@ -1,10 +1,14 @@
 //! Shows the frames of a live line.
 //!
-//! `cobs_watch` shows each piece of a stream of frames as soon as the piece's sentinel arrives: `message N` with the N
-//! bytes as hexadecimal digits, `broken N` for a piece that breaks off inside a block and decodes to N bytes, or `too
-//! long` for a piece that decodes to more bytes than the buffer holds. The program reads the device, FIFO or file at a
-//! path, or standard input, until the input ends. Options change the output; `cobs_watch --help` lists them.
-//! `cobs_watch send` reads lines, and sends each line as a frame, followed by the sentinel.
+//! `cobs_watch` shows each piece of a stream of frames as soon as the piece's sentinel arrives. It prints one of these:
+//!
+//! - `message N`, with the N bytes of a message as hexadecimal digits
+//! - `broken N`, for a piece that breaks off inside a block and decodes to N bytes
+//! - `too long`, for a piece that decodes to more bytes than the buffer holds
+//!
+//! The program reads the device, FIFO or file at a path, or standard input, until the input ends. Options change the
+//! output; `cobs_watch --help` lists them. `cobs_watch send` reads lines, and sends each line as a frame, followed by
+//! the sentinel.
 //!
 //! At the end of the input, `unfinished` is printed if a piece has begun and no sentinel has ended it. The exit status
 //! is then 0. If a read or a write failed or memory ran out, the status is 1, and a line on standard error says so. If
@@ -302,7 +306,7 @@ fn send(rt: &HostRuntime, settings: &send::Settings) -> anyhow::Result<ExitCode>
         Ok(true) => Ok(ExitCode::SUCCESS),
         Ok(false) => Ok(ExitCode::FAILURE),
         // If the system reported the failed read, `reason` has an error number. If `reason` has no number, memory ran
-        // out for a line.
+        // out while a line was read.
         Err(WatchFault::ReadFailed) if reason.get().is_none() => {
             Ok(faulted(rt, WatchFault::OutOfMemory, None))
         }

@@ -216,8 +216,8 @@ pub(crate) fn filter_of(alloc: Global, matches: &ArgMatches<'_>) -> Result<Filte
             "the value of '--min <N>' is above that of '--max <N>'",
         );
     }
-    // `unfinished` and `hung up` have no decoded bytes, so the other filters hold them back, unless `--only` names
-    // `unfinished`.
+    // `unfinished` and `hung up` have no decoded bytes. So they aren't shown with `--min`, `--max` or `--prefix`,
+    // unless `--only` names `unfinished`.
     let is_whole = ["min", "max", "prefix"]
         .iter()
         .all(|name| matches.get_str(name).is_none());

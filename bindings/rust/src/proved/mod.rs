@@ -28,8 +28,8 @@ pub use framed::{FrameReader, FrameSource, Next, ReadFault};
 #[cfg(feature = "alloc")]
 pub use stream::{FrameOutcome, decode_stream};
 
-/// Returns the greatest overhead, in bytes, of an encoded frame of a message of `source_len` bytes. The overhead of a
-/// frame is its length minus the length of its message.
+/// Returns the greatest overhead, in bytes, that the encoded frame of a message of `source_len` bytes can have. The
+/// overhead of a frame is its length minus the length of its message.
 ///
 /// The greatest overhead is `source_len / 254`, rounded up, or 1 if the message is empty. A message without zeros has
 /// this overhead: its frame has one code for each group of up to 254 bytes, and at least one code. Sentinels before and
@@ -44,7 +44,8 @@ pub const fn max_encoding_overhead(source_len: usize) -> usize {
 /// Returns the length in bytes of the longest encoded frame that a message of `source_len` bytes can have. A buffer of
 /// this length has room for the frame of any message of `source_len` bytes. Sentinels aren't counted.
 ///
-/// Precondition: the length of the longest frame fits a `usize`. It does for every `source_len` up to `isize::MAX`.
+/// Precondition: the length of the longest frame fits a `usize`. This is true for every `source_len` up to
+/// `isize::MAX`.
 pub const fn max_encoding_length(source_len: usize) -> usize {
     source_len + max_encoding_overhead(source_len)
 }

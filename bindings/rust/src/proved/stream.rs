@@ -2,10 +2,10 @@
 //! Calls for whole streams: `decode_stream` decodes all pieces that end in the next bytes of a stream, and
 //! `encode_frames` encodes several messages.
 //!
-//! A stream is cut at its zeros. The bytes between two neighbouring zeros are a piece, unless the zeros are adjacent.
-//! Each piece is decoded separately: a piece is a frame, breaks off inside a block, or decodes to more bytes than the
-//! buffer has room for. So damage to one piece has no effect after the next zero. (The rule that a zero ends each frame
-//! is from Cheshire and Baker's paper; how broken and too long pieces are reported is a choice of this library.)
+//! A stream is cut at its zeros. One or more bytes between a zero and the next zero are a piece. Each piece is decoded
+//! separately: a piece is a frame, breaks off inside a block, or decodes to more bytes than the buffer has room for. So
+//! damage to one piece has no effect after the next zero. (The rule that a zero ends each frame is from Cheshire and
+//! Baker's paper; how broken and too long pieces are reported is a choice of this library.)
 
 use crate::memory::AllocError;
 use crate::proved::dec::{FrameDecoder, PieceEnd};

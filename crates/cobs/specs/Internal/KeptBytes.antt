@@ -35,6 +35,7 @@ pub record ReportsFirst (next : Next) (p bytes buffer rest : List ℕ) : Type 0 
   pub first : EndsFirstIn p bytes (length buffer) outcome rest
   pub decoded : HasDecoded outcome buffer (unended (p ++ first.front))
 
--- the same reader, except that these are the bytes that it has read but not yet fed to its decoder
+-- the reader with other kept bytes: `kept`, the bytes that it has read but not yet fed to its decoder, is replaced by
+-- these bytes
 abbrev pub with_kept : List ℕ → ReaderState → ReaderState
 with_kept kept reader = record reader { kept = kept }

@@ -19,8 +19,8 @@ pub record IsMaskedAt (start : Start) (read len next zeros index : ℕ) (slice :
   pub short : next + min (lowest zeros) len < index + 255
   pub reaches : Reaches start slice (read + d) index (next + d) (λ full. 0 < d → full ≡ false)
 
--- the bytes of the window up to and including the last zero that a code has replaced are encoded; the open block begins
--- at the place of that zero
+-- codes have replaced some zeros of the window. The window is encoded up to and including the last of these zeros, and
+-- the open block begins at the place of this zero.
 abbrev pub IsMasked : Start → ℕ → ℕ → ℕ → ℕ → ℕ → List ℕ → Type 0
 IsMasked start read len next zeros index slice = IsMaskedAt start read len next zeros index slice (index + 1 - next)
 

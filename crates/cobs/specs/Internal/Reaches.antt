@@ -42,7 +42,7 @@ start_with slice reached source = record { slice = slice; reached = reached; sou
 abbrev pub whole_end : Start → ℕ
 whole_end start = end_after start.reached start.source
 
--- the message so far was m at this start
+-- at this start, m was the message so far
 unfoldable pub HadTaken : Start → List ℕ → Type 0
 HadTaken start m = CobsEncoderAfter start.slice start.reached m
 

@@ -18,9 +18,9 @@ use std::alloc::{AllocError, Global};
 ///
 /// `feed` decodes one byte of the stream, and `push` decodes any number of bytes. When a frame ends, its message is at
 /// the front of the slice, and stays there until the next nonzero byte is fed. A piece of the stream consists of the
-/// bytes between two zeros. The outcome of a piece depends only on the bytes of the piece and on the length of the
-/// slice: the decoder is idle after every zero, so a broken frame never affects another frame. The rule that a zero
-/// ends each frame is from Cheshire and Baker's paper.
+/// bytes between two zeros. The decoder is idle after every zero, so a broken frame never affects another frame: the
+/// outcome of a piece depends only on the bytes of the piece and on the length of the slice. The rule that a zero ends
+/// each frame is from Cheshire and Baker's paper.
 ///
 /// ```
 /// let mut buffer = [0; 8];
@@ -62,8 +62,8 @@ impl<'a> CobsDecoder<'a> {
     /// - `Ok(None)`: the byte didn't end a piece, and the slice begins with the output of the piece so far.
     /// - `Ok(Some(n))`: the byte was the zero after a whole frame, and the message is the slice's first `n` bytes.
     ///
-    /// The bytes of the slice after the output are as they were. As long as the output of the piece fits the slice, each
-    /// byte changes the decoder's state as it changes a [`DecoderState`](crate::DecoderState).
+    /// The bytes of the slice after the output are as they were. As long as the output of the piece fits the slice, the
+    /// byte has the same effect on the decoder's state as on a [`DecoderState`](crate::DecoderState).
     ///
     /// # Errors
     /// - `InvalidFrame`: the byte was a zero inside a block. `decoded_bytes` is the length of the piece's output, which
@@ -93,12 +93,13 @@ impl<'a> CobsDecoder<'a> {
         self.inner.feed(self.dest, byte)
     }
 
-    /// Decodes the next bytes of the stream, and stops after the first byte for which `feed` doesn't return `Ok(None)`.
+    /// Decodes the next bytes of the stream, and stops after the first byte for which `feed` returns a message or an
+    /// error.
     ///
     /// - `Ok(None)`: all bytes were decoded, and no piece ended in them.
     /// - `Ok(Some(report))`: a whole frame has ended. `frame_size` is the length of the frame's message, which is at
     ///   the front of the slice. `parsed_size` is the number of bytes consumed, including the zero after the frame. The
-    ///   other bytes had no effect: push them next.
+    ///   remaining bytes had no effect: push them next.
     ///
     /// # Errors
     /// A `PushError` contains the error of `feed` and the number of bytes consumed, including the byte that raised the
@@ -145,9 +146,9 @@ impl<'a> CobsDecoder<'a> {
     ///
     /// If the caller writes while a piece is open, the results for this piece stay the same, but the bytes of its
     /// message are unspecified. A piece is open from its first byte to the zero that ends it. A proof about a caller of
-    /// `dest_mut` knows the bytes of the slice while the returned reference is in use, but not the decoder's state
-    /// after the write. If the caller writes with [`write_dest`](crate::WriteBuffer::write_dest) instead, the proof
-    /// also knows that state.
+    /// `dest_mut` can use the bytes of the slice while the returned reference is in use, but not the decoder's state
+    /// after the write. If the caller writes with [`write_dest`](crate::WriteBuffer::write_dest) instead, the proof can
+    /// also use that state.
     ///
     /// ```
     /// let mut buffer = [7; 2];
@@ -242,8 +243,8 @@ impl CobsDecoderOwned {
     }
 
     /// Decodes the next byte of the stream. The results and errors are those of
-    /// [`CobsDecoder::feed`](crate::CobsDecoder::feed). As there, each byte changes the decoder's state as it changes a
-    /// [`DecoderState`](crate::DecoderState), as long as the output of the piece fits the buffer.
+    /// [`CobsDecoder::feed`](crate::CobsDecoder::feed). As long as the output of the piece fits the buffer, the byte
+    /// has the same effect on the decoder's state as on a [`DecoderState`](crate::DecoderState).
     ///
     /// ```
     /// let mut decoder = CobsDecoderOwned::new(alloc, 0)?;
@@ -260,8 +261,8 @@ impl CobsDecoderOwned {
         self.inner.feed(&mut self.dest, byte)
     }
 
-    /// Decodes the next bytes of the stream, and stops after the first byte for which `feed` doesn't return `Ok(None)`.
-    /// The results and errors are those of [`CobsDecoder::push`](crate::CobsDecoder::push).
+    /// Decodes the next bytes of the stream, and stops after the first byte for which `feed` returns a message or an
+    /// error. The results and errors are those of [`CobsDecoder::push`](crate::CobsDecoder::push).
     ///
     /// ```
     /// let mut decoder = CobsDecoderOwned::new(alloc, 8)?;

@@ -78,8 +78,8 @@ pub trait FrameDecoder {
     ghost loan: { Self → ℕ };
 
     /// Decodes the next byte of the stream. The results and errors are those of
-    /// [`CobsDecoder::feed`](crate::CobsDecoder::feed). As there, each byte changes the decoder's state as it changes a
-    /// [`DecoderState`](crate::DecoderState), as long as the output of the piece fits the buffer.
+    /// [`CobsDecoder::feed`](crate::CobsDecoder::feed). As long as the output of the piece fits the buffer, the byte
+    /// has the same effect on the decoder's state as on a [`DecoderState`](crate::DecoderState).
     ///
     /// ```
     /// let mut decoder = CobsDecoderHeapless::<1>::new();
@@ -141,8 +141,8 @@ pub trait FrameDecoder {
 /// bytes of its message are unspecified. A piece is open from its first byte to the zero that ends it.
 ///
 /// Each decoder of this library that implements this trait also has an inherent method `dest_mut`. A `CobsDecoder`
-/// borrows its slice, so a proof about a caller of `CobsDecoder::dest_mut` can use only the bytes of the slice, and
-/// only while the returned reference is in use. If the proof also needs the decoder's state, the caller calls
+/// borrows its slice, so a proof about a caller of `CobsDecoder::dest_mut` can use the bytes of the slice while the
+/// returned reference is in use, but nothing else. If the proof also needs the decoder's state, the caller calls
 /// [`write_dest`](WriteBuffer::write_dest), or `dest_mut` in code that is generic over this trait. (The trait is this
 /// library's own.)
 ///

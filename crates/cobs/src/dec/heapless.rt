@@ -52,7 +52,7 @@ impl<const N: usize> CobsDecoderHeapless<N> {
     }
 
     /// Makes an idle decoder whose buffer is the vector `vec`. The vector keeps its bytes, and zeros are appended until
-    /// it is full with `N` bytes.
+    /// the vector has `N` bytes.
     ///
     /// ```
     /// let mut vec = ArrayVec::<u8, 3>::new();
@@ -76,8 +76,8 @@ impl<const N: usize> CobsDecoderHeapless<N> {
     }
 
     /// Decodes the next byte of the stream. The results and errors are those of
-    /// [`CobsDecoder::feed`](crate::CobsDecoder::feed). As there, each byte changes the decoder's state as it changes a
-    /// [`DecoderState`](crate::DecoderState), as long as the output of the piece fits the buffer.
+    /// [`CobsDecoder::feed`](crate::CobsDecoder::feed). As long as the output of the piece fits the buffer, the byte
+    /// has the same effect on the decoder's state as on a [`DecoderState`](crate::DecoderState).
     ///
     /// ```
     /// let mut decoder = CobsDecoderHeapless::<4>::new();
@@ -95,8 +95,8 @@ impl<const N: usize> CobsDecoderHeapless<N> {
         self.inner.feed(self.dest.as_mut_slice(), byte)
     }
 
-    /// Decodes the next bytes of the stream, and stops after the first byte for which `feed` doesn't return `Ok(None)`.
-    /// The results and errors are those of [`CobsDecoder::push`](crate::CobsDecoder::push).
+    /// Decodes the next bytes of the stream, and stops after the first byte for which `feed` returns a message or an
+    /// error. The results and errors are those of [`CobsDecoder::push`](crate::CobsDecoder::push).
     ///
     /// ```
     /// let mut decoder = CobsDecoderHeapless::<8>::new();

@@ -33,9 +33,10 @@ fn move_back(buffer: &mut [u8], at: usize, read: usize, len: usize)
 }
 
 impl UnbufferedDecoder {
-    /// Decodes bytes of the buffer in one step, from index `read` on and before index `end`, and writes the output to
-    /// the same buffer. Returns how many bytes it decoded. The steps are those of `take_part` in `run.rt`, with two
-    /// differences: a step decodes at most one row of 32 blocks 01, and the output always fits.
+    /// Makes one decoding step in the buffer: decodes one or more bytes, the first of which is at index `read` and all
+    /// of which are before index `end`. Writes the output to the same buffer, and returns how many bytes it decoded.
+    /// The steps are those of `take_part` in `run.rt`, with two differences: a step decodes at most one row of 32
+    /// blocks 01, and the output always fits.
     ///
     /// The output must not overwrite a byte that isn't decoded yet. So the caller ensures that the output so far ends at
     /// index `read` at the latest, and before `read` if the next code will add the zero of a joint.
@@ -156,13 +157,13 @@ fn decode_span_in_place(buffer: &mut [u8], len: usize) -> bool
     true
 }
 
-/// Decodes the frame at the front of the buffer in place, up to the first zero or the buffer's end, and returns how
-/// many bytes the frame has and how many bytes the message has.
+/// Decodes the frame at the front of the buffer in place, up to the first zero or the buffer's end. Returns the length
+/// of the frame and the length of the message, in bytes.
 ///
 /// The first `frame_size` bytes of the buffer are then the message, and every other byte of the buffer is as it was.
 /// `parsed_size` is the number of bytes before the first zero, or the length of the buffer if it has no zero. Unlike
 /// [`decode`](crate::decode), this function reads a leading zero as an empty message, and returns 0 for both sizes.
-/// This function never returns `TargetBufTooSmall`, since a message is shorter than its frame.
+/// This function never returns `TargetBufTooSmall`, because a message is shorter than its frame.
 ///
 /// # Errors
 ///
@@ -181,8 +182,8 @@ fn decode_span_in_place(buffer: &mut [u8], len: usize) -> bool
 /// assert_eq!(rt; report.frame_size(), 4);
 /// assert_eq!(rt; buf, [10, 11, 0, 12, 12, 0]);
 /// ```
-// Inlined, because the result of a call is returned in memory, and such a call costs as much as decoding a frame of a
-// few bytes.
+// Inlined, because a call would return its result in memory. Such a call costs as much as decoding a frame of a few
+// bytes.
 #[inline(always)]
 pub fn decode_in_place_report(buf: &mut [u8]) -> Result<DecodeReport, DecodeError>
     ensures answer { result ≡ in_place_report buf.old }
@@ -235,7 +236,7 @@ pub fn decode_short_in_place(buf: &mut [u8]) -> Option<DecodeReport>
     if !decode_span_in_place(buf, len) {
         return None;
     }
-    // A frame of up to 65 bytes has no full block. So each of its codes became a zero of the message, except the first.
+    // A frame of up to 65 bytes has no full block. So each of its codes except the first became a zero of the message.
     Some(DecodeReport {
         parsed_size: len,
         frame_size: len - 1,

@@ -150,8 +150,8 @@ impl DecoderState {
         ensures answer { result ≡ table_result self.old byte }
         ensures state { self.new ≡ table_state self.old byte }
 
-        // The clauses `after` and `message` are about a state after the front p of a piece was fed. `so_far` is the
-        // list of the bytes of the message that the results so far contained.
+        // The clauses `after` and `message` are about a state after the front p of a piece was fed. `so_far` lists the
+        // bytes of the message that were in the results so far.
         ensures after { (p so_far : List ℕ) → StateAfter self.old p so_far → byte ≢ 0
             → StateAfter self.new (p ++ byte ∷ []) (so_far ++ data_of result) }
         ensures message { (p so_far m : List ℕ) → StateAfter self.old p so_far → byte ≡ 0

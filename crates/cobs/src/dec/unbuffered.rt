@@ -112,8 +112,8 @@ impl UnbufferedDecoder {
     }
 
     /// Decodes the next byte of the stream, with `dest` as the buffer. The results and errors are those of
-    /// [`CobsDecoder::feed`](crate::CobsDecoder::feed). As there, each byte changes the decoder's state as it changes a
-    /// [`DecoderState`](crate::DecoderState), as long as the output of the piece fits the buffer.
+    /// [`CobsDecoder::feed`](crate::CobsDecoder::feed). As long as the output of the piece fits the buffer, the byte
+    /// has the same effect on the decoder's state as on a [`DecoderState`](crate::DecoderState).
     ///
     /// ```
     /// let mut buffer = [0; 2];
@@ -132,7 +132,8 @@ impl UnbufferedDecoder {
     }
 
     /// Decodes the next bytes of the stream, with `dest` as the buffer, and stops after the first byte for which `feed`
-    /// doesn't return `Ok(None)`. The results and errors are those of [`CobsDecoder::push`](crate::CobsDecoder::push).
+    /// returns a message or an error. The results and errors are those of
+    /// [`CobsDecoder::push`](crate::CobsDecoder::push).
     ///
     /// ```
     /// let mut buffer = [0; 2];
@@ -249,9 +250,9 @@ impl UnbufferedDecoder {
         self.pass_to_end(dest, bytes, taken)
     }
 
-    /// Returns how many zeros `bytes` begins with if no piece has begun, and 0 if a piece has begun. These zeros end no
-    /// piece. Some serial lines carry many zeros while nothing is sent. The caller ensures that there is at least one
-    /// byte.
+    /// Returns how many zeros `bytes` begins with, if no piece has begun: these zeros end no piece. Returns 0 if a
+    /// piece has begun. Some serial lines carry many zeros while nothing is sent. The caller ensures that there is at
+    /// least one byte.
     #[inline(always)]
     fn zeros_outside(&self, bytes: &[u8]) -> usize
         requires some { 0 < length bytes.now }

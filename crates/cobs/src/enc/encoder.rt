@@ -65,9 +65,9 @@ impl<'a> CobsEncoder<'a> {
     /// An empty push always succeeds, and changes nothing. The bytes of the slice after the frame are never written.
     ///
     /// # Errors
-    /// `DestBufTooSmallError` exactly if the slice is shorter than the encoded frame of the message so far with `bytes`
-    /// appended. Then neither the encoder nor the slice has changed, so the caller may end the message, or push fewer
-    /// bytes. (This guarantee is this library's own.)
+    /// `DestBufTooSmallError` exactly if the encoded frame of all bytes pushed so far, including `bytes`, is longer
+    /// than the slice. Then neither the encoder nor the slice has changed, so the caller may end the message, or push
+    /// fewer bytes. (This guarantee is this library's own.)
     ///
     /// ```
     /// let mut dest = [170; 4];

@@ -17,9 +17,12 @@ impl UnbufferedEncoder {
     /// An empty push changes nothing. The bytes of the buffer after the frame are never written.
     ///
     /// # Errors
-    /// `DestBufTooSmallError` exactly if the buffer is shorter than the encoded frame of the message so far with
-    /// `bytes` appended, or if the encoder's state isn't possible in a buffer of this length. Then neither the encoder
-    /// nor the buffer has changed, so the caller may end the message, or push fewer bytes.
+    /// `DestBufTooSmallError` in exactly these two cases:
+    ///
+    /// - The encoded frame of all bytes pushed so far, including `bytes`, is longer than the buffer.
+    /// - The encoder's state isn't possible in a buffer of this length.
+    ///
+    /// Then neither the encoder nor the buffer has changed, so the caller may end the message, or push fewer bytes.
     ///
     /// ```
     /// let mut buffer = [170; 3];

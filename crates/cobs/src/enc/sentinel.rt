@@ -81,9 +81,9 @@ pub fn try_encode_with_sentinel(
 /// The bytes of `dest` after the second 0 stay as they were. As in the crate `cobs`, one sentinel is before the frame
 /// and one is after it.
 ///
-/// Precondition: the frame and both sentinels fit `dest`. Two bytes more than
-/// [`max_encoding_length`](crate::max_encoding_length) returns are always enough. If you don't know whether the frame
-/// and both sentinels fit, call [`try_encode_including_sentinels`], which returns an error if they don't fit.
+/// Precondition: the frame and both sentinels fit `dest`. A `dest` that is two bytes longer than the result of
+/// [`max_encoding_length`](crate::max_encoding_length) is always long enough. If you don't know whether the frame and
+/// both sentinels fit, call [`try_encode_including_sentinels`], which returns an error if they don't fit.
 ///
 /// ```
 /// let mut dest = [170; 8];

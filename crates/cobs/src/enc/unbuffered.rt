@@ -11,7 +11,7 @@ ghost use Rattle.cobs.specs.Fields.Progress.{reached_by};
 ///
 /// From the first push to the end of the message, the caller must pass the same buffer to each call, and must not
 /// change the buffer between two calls. If the caller passes another buffer, of any length, or sets the three numbers
-/// to any values, each call is still safe: no call panics, and no call returns a length greater than the buffer's
+/// to any values, each call is still safe. No call panics, and no call returns a length greater than the buffer's
 /// length. But the bytes of the buffer are then unspecified.
 ///
 /// ```

@@ -12,9 +12,14 @@ ghost use Rattle.cobs.specs.declared.dec.frame_decoder.PieceEnd.{PieceEnd};
 
 /// The length of a frame, counted block by block.
 ///
-/// The length of an encoded frame is the sum of the lengths of its blocks. The first block stands for up to 253 nonzero
-/// bytes and the zero after them, for 254 nonzero bytes that are followed by other bytes, or for a whole message of up
-/// to 254 nonzero bytes. The length depends only on the number of nonzero bytes, not on their values.
+/// The length of an encoded frame is the sum of the lengths of its blocks. The first block stands for one of these:
+///
+/// - up to 253 nonzero bytes, and the zero after them
+/// - 254 nonzero bytes, if other bytes follow them
+/// - the whole message, if the message consists of up to 254 nonzero bytes
+///
+/// If the nonzero bytes at the front of a message are replaced by as many other nonzero bytes, the length stays the
+/// same.
 ///
 /// So an encoder can decide with one pass over the message, before it writes a byte, whether the frame fits.
 ///
@@ -47,9 +52,9 @@ pub fn law_15()
 /// full.
 ///
 /// If more bytes of the message follow, the length of the whole frame is the sum of two numbers. The first number is
-/// the index of the open block. The second number is the length of an encoded frame: the frame of a message that
-/// consists of the open block's bytes and these other bytes. The clause `goes_on` states this sum; its `a` is any list
-/// of nonzero bytes that is as long as the open block.
+/// the index of the open block. The second number is the length of the encoded frame of another message: the bytes of
+/// the open block without its code, and then the bytes that follow. The clause `goes_on` states this sum. In place of
+/// the open block's bytes, it has any list `a` of as many nonzero bytes.
 ///
 /// So an encoder of your own that makes these steps writes the frames that [`encode`](crate::encode) writes.
 ///
@@ -78,10 +83,12 @@ pub fn law_16()
 
 /// A decoder of your own, byte by byte.
 ///
-/// For any byte, the streaming decoders make the step that the table of [`DecoderState`](crate::DecoderState)
-/// describes, unless the output is too long for the buffer. This holds in any phase of the decoder. Consider a loop
-/// that feeds bytes one by one, and stops after the zero that ends the first piece, or after the last byte if no piece
-/// ends. This loop has the same result as one call of `feed_piece`.
+/// The file `specs/Step.antt` defines a step for every phase of a decoder and every byte. This step meets the contract
+/// of `feed` (clause `step`). As long as the output of the piece fits the buffer, the step is the one that the table of
+/// [`DecoderState`](crate::DecoderState) describes (clause `by_table`).
+///
+/// Consider a loop that feeds bytes one by one, and stops after the zero that ends the first piece, or after the last
+/// byte if no piece ends. This loop has the same result as one call of `feed_piece`.
 ///
 /// So a decoder of your own that makes these steps decodes as the streaming decoders do.
 ///
@@ -107,13 +114,13 @@ pub fn law_17()
     ensures { DecoderLaw }
 {}
 
-/// A frame is decoded as its message however it is streamed, and nothing else is.
+/// Streaming decoders return the message of each frame, and no other message.
 ///
-/// Assume that the buffer has room for the message of a frame. If all bytes of the frame have been fed, `feed` returns
-/// the length of the message for the zero after the frame. If an idle decoder gets a piece, a zero and any other bytes,
-/// `feed_piece` stops after that zero; if the piece is this frame, `feed_piece` returns the length of the message. A
-/// `push` of the frame and its zero to an idle decoder returns the length of the message too. After each of these calls
-/// the buffer begins with the message. No piece that isn't a frame is decoded as a message.
+/// Assume that the buffer has room for the message of a frame. After all bytes of the frame have been fed, `feed` of
+/// the zero after the frame returns the length of the message. If an idle decoder gets a piece, a zero and any other
+/// bytes, `feed_piece` stops after that zero. If the piece is this frame, `feed_piece` returns the length of the
+/// message. A `push` of the frame and its zero to an idle decoder returns the length of the message too. After each of
+/// these calls the buffer begins with the message. No piece that isn't a frame is decoded as a message.
 ///
 /// So each of these calls decodes the frames that [`encode`](crate::encode) writes.
 ///
@@ -139,12 +146,12 @@ pub fn law_18()
 /// The kind of a frame, block by block.
 ///
 /// A canonical frame is the frame that encoders write for its message. A single block is a canonical frame. A block
-/// with other bytes after it is a frame exactly if the other bytes are a frame. The whole frame is canonical exactly if
-/// the other bytes are a canonical frame, with one exception: a full block followed by only the block 01 isn't
+/// followed by further bytes is a frame exactly if the further bytes are a frame. The whole frame is canonical exactly
+/// if the further bytes are a canonical frame, with one exception: a full block followed by only the block 01 isn't
 /// canonical. Bytes aren't a frame if there are fewer of them than the first code says.
 ///
-/// So your own reader that goes from code to code finds out whether the bytes are a frame, and which kind of frame they
-/// are.
+/// So if your own reader goes from code to code, it can find out whether the bytes are a frame, and which kind of frame
+/// they are.
 ///
 /// ```
 /// fn is_canonical_behind(block: &[u8], frame: &[u8]) -> bool
@@ -170,14 +177,14 @@ pub fn law_19()
 /// The output of a piece, block by block.
 ///
 /// A piece is whole if its last block is complete. The kept output of a piece is its output without the bytes of an
-/// incomplete last block. A single block is whole, and its output is its bytes without the code. A block with other
-/// bytes after it is whole exactly if the other bytes are whole. The kept output of the block and the other bytes is
-/// the output of the block, then a zero unless the block is full, and then the kept output of the other bytes. If a
-/// piece has fewer bytes than its first code says, it isn't whole, and its kept output is empty. The kept output of a
-/// whole piece is its output.
+/// incomplete last block. A single block is whole, and its output is its bytes without the code. A piece that consists
+/// of a block and further bytes is whole exactly if the further bytes are whole. The kept output of this piece is the
+/// output of the block, then a zero unless the block is full, and then the kept output of the further bytes. If a piece
+/// has fewer bytes than its first code says, it isn't whole, and its kept output is empty. The kept output of a whole
+/// piece is its output.
 ///
-/// So your own decoder that goes from code to code writes the bytes that [`decode_in_place`](crate::decode_in_place)
-/// writes.
+/// So if your own decoder goes from code to code, it can write the bytes that
+/// [`decode_in_place`](crate::decode_in_place) writes.
 ///
 /// ```
 /// fn decode_block<'a>(block: &'a [u8]) -> &'a [u8]
@@ -204,11 +211,11 @@ pub fn law_20()
 
 /// A loop over the pieces of a stream.
 ///
-/// If an idle decoder decodes the first piece of a stream with `feed_piece`, the outcomes of the stream are the outcome
-/// of that piece, followed by the outcomes of the bytes after that piece and its zero. The unended bytes of a stream
-/// are the bytes after its last zero, or all bytes if it has no zero. The unended bytes of the whole stream are those
-/// of the bytes after that piece and its zero. If no piece ends, the stream has no outcome, and the unended bytes have
-/// been fed to the decoder.
+/// Assume that an idle decoder decodes the first piece of a stream with `feed_piece`. The rest of the stream begins
+/// after the zero that ends this piece. Then the outcomes of the stream are the outcome of the first piece, followed by
+/// the outcomes of the rest. The unended bytes of a stream are the bytes after its last zero, or all bytes if it has no
+/// zero. The whole stream has the same unended bytes as the rest. If no piece ends, the stream has no outcome, and the
+/// unended bytes have been fed to the decoder.
 ///
 /// So the invariant of a loop over `feed_piece` is one equation: the outcomes found so far, followed by the outcomes of
 /// the remaining bytes, are the outcomes of the stream.

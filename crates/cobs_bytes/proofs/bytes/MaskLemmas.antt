@@ -27,7 +27,9 @@ zero_mask-lanes (b ∷ bytes) = grind (arith, zero_mask-lanes bytes)
 pub put_is : (dest bytes : List ℕ) (at n : ℕ) → length bytes ≡ n → at + n ≤ length dest → put_chunk at dest bytes ≡ take at dest ++ (bytes ++ drop (at + n) dest)
 put_is dest bytes at n l room = grind (arith, put_chunk_is, drop-drop)
 
--- the bits of a comparison with 0
+-- A SIMD comparison with n zeros turns each byte that is 0 into 255, and each other byte into 0. std's `bitmask_splat`
+-- states that the mask of the top bits of these results (`top`, `mask_l`) has a one for each byte that is 0. This mask
+-- is the `zero_mask` of the bytes.
 pub zeros_by_lanes : (source : List ℕ) (at n : ℕ) → at + n ≤ length source → n ≤ 64
     → mask_l (map (top 7) (zip2 (λ a b. cond (eqb a b) (2 ^ 8 - 1) 0) (take n (drop at source)) (replicate n 0))) % 2 ^ 64 ≡ zero_mask (take n (drop at source))
 zeros_by_lanes source at n room few =

@@ -66,8 +66,8 @@ impl PieceEnd {
 /// ```
 pub trait FrameDecoder {
     /// Decodes the next byte of the stream. The results and errors are those of
-    /// [`CobsDecoder::feed`](crate::CobsDecoder::feed). As there, each byte changes the decoder's state as it changes a
-    /// [`DecoderState`](crate::DecoderState), as long as the output of the piece fits the buffer.
+    /// [`CobsDecoder::feed`](crate::CobsDecoder::feed). As long as the output of the piece fits the buffer, the byte
+    /// has the same effect on the decoder's state as on a [`DecoderState`](crate::DecoderState).
     ///
     /// ```
     /// use jcobs::{CobsDecoderHeapless, FrameDecoder};

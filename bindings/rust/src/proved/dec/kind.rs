@@ -23,8 +23,8 @@ pub enum FrameKind {
     Canonical,
 
     /// The bytes are the longer frame of a message: the frame that encoders write for this message, followed by the
-    /// byte 01, a block that has only its code. Only a message whose last run of nonzero bytes has a positive length
-    /// divisible by 254 has a longer frame.
+    /// byte 01, a block that has only its code. A message has a longer frame only if the length of its last run of
+    /// nonzero bytes is positive and divisible by 254.
     Longer,
 }
 

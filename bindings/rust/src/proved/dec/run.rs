@@ -104,13 +104,14 @@ impl UnbufferedDecoder {
             self.missing -= len as u8;
             return;
         }
-        // `missing` bytes of the open block are missing, as many as directly after a code of `missing + 1`.
+        // `missing` bytes of the open block are missing. The same number of bytes is missing directly after a code of
+        // `missing + 1`, so this code is passed.
         self.settle(write_zeros_at_codes(&mut dest[at..at + len], missing + 1));
     }
 
-    /// Decodes the bytes of `copied`, which the caller has copied to the end of the output, that is, to index `written`
-    /// of `dest`, each XORed with the sentinel. The caller ensures that there are 1 to 253 bytes, that none of them is
-    /// the sentinel, and that no full block ends before the last of them.
+    /// Decodes the bytes of `copied`. The caller has copied them to the end of the output, that is, to index `written`
+    /// of `dest`, and has XORed each copied byte with the sentinel. The caller ensures that there are 1 to 253 bytes,
+    /// that none of them is the sentinel, and that no full block ends before the last of them.
     #[inline(always)]
     fn take_copied(&mut self, dest: &mut [u8], copied: &[u8], sentinel: u8) {
         let at = self.written;
@@ -121,7 +122,8 @@ impl UnbufferedDecoder {
             self.missing -= len as u8;
             return;
         }
-        // `missing` bytes of the open block are missing, as many as directly after a code of `missing + 1`.
+        // `missing` bytes of the open block are missing. The same number of bytes is missing directly after a code of
+        // `missing + 1`, so this code is passed.
         self.settle(write_zeros_at_copied(
             &mut dest[at..at + len],
             copied,

@@ -33,6 +33,7 @@ impl UnbufferedDecoder {
         }
         // No byte of a block is missing here. If a piece has begun and its last block isn't full, `joint` isn't 0. If a
         // piece has begun and its last block is full, `written` isn't 0, because the bytes of that block were written.
+        // So if both are 0, no piece has begun.
         if ended.written == 0 && ended.joint == 0 {
             Ok(None)
         } else {
@@ -58,8 +59,7 @@ impl UnbufferedDecoder {
     /// assert!(buffer.starts_with(&[7, 8]));
     /// ```
     // The case of a byte inside a block has a separate return, whose value needs no comparison with the buffer's
-    // length. Compilers generate fewer instructions for a call with one byte than they would if all cases shared one
-    // return.
+    // length. So compilers generate fewer instructions for a call with one byte than if all cases shared one return.
     #[inline(always)]
     pub fn take_byte(&mut self, dest: &mut [u8], byte: u8) -> usize {
         let room = dest.len();

@@ -109,8 +109,8 @@ impl UnbufferedDecoder {
     }
 
     /// Decodes the next byte of the stream, with `dest` as the buffer. The results and errors are those of
-    /// [`CobsDecoder::feed`](crate::CobsDecoder::feed). As there, each byte changes the decoder's state as it changes a
-    /// [`DecoderState`](crate::DecoderState), as long as the output of the piece fits the buffer.
+    /// [`CobsDecoder::feed`](crate::CobsDecoder::feed). As long as the output of the piece fits the buffer, the byte
+    /// has the same effect on the decoder's state as on a [`DecoderState`](crate::DecoderState).
     ///
     /// ```
     /// use jcobs::UnbufferedDecoder;
@@ -128,7 +128,7 @@ impl UnbufferedDecoder {
     }
 
     /// Decodes the next bytes of the stream, with `dest` as the buffer, and stops after the first byte for which `feed`
-    /// doesn't return `Ok(None)`. The error says how many bytes were consumed.
+    /// returns a message or an error. The error says how many bytes were consumed.
     ///
     /// ```
     /// use jcobs::UnbufferedDecoder;
@@ -240,9 +240,9 @@ impl UnbufferedDecoder {
         self.pass_to_end(dest, bytes, taken)
     }
 
-    /// Returns how many zeros `bytes` begins with if no piece has begun, and 0 if a piece has begun. These zeros end no
-    /// piece. Some serial lines carry many zeros while nothing is sent. The caller ensures that there is at least one
-    /// byte.
+    /// Returns how many zeros `bytes` begins with, if no piece has begun: these zeros end no piece. Returns 0 if a
+    /// piece has begun. Some serial lines carry many zeros while nothing is sent. The caller ensures that there is at
+    /// least one byte.
     #[inline(always)]
     fn zeros_outside(&self, bytes: &[u8]) -> usize {
         if bytes[0] == 0 && self.is_idle() {

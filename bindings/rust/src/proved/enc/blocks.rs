@@ -10,8 +10,8 @@ use crate::proved::cobs_bytes::window::{
 use crate::proved::enc::UnbufferedEncoder;
 use crate::proved::find::position_or_len;
 
-/// Fewer bytes than this number are encoded one by one, because in the Rust crate this is faster than copying a window.
-/// `push_few` accepts at most this number of bytes.
+/// If there are fewer bytes than this number, they are encoded one by one. In the Rust crate this is faster than
+/// copying a window. `push_few` accepts at most this number of bytes.
 pub(crate) const APPEND_EACH_BELOW: usize = 8;
 
 /// The mask of a window that has only zeros.
@@ -138,8 +138,9 @@ fn write_codes_of_zeros(source: &[u8], dest: &mut [u8], at: usize) -> usize {
 /// copied: their codes are written 32 at a time. No byte after the frame is written.
 ///
 /// In the body, the code of the open block belongs at `index`, and the window is copied to `next`. `place` is the index
-/// of the copy of the window's first zero. A block has at most 255 bytes. So the open block doesn't become full if
-/// `place`, or the index after a window without zeros, is less than `index + 255`.
+/// of the copy of the window's first zero. The bytes of the open block end before `place` or, if the window has no
+/// zero, before `next + 32`. A block has at most 255 bytes. So the open block doesn't become full if this index is less
+/// than `index + 255`.
 #[inline(always)]
 fn append_windows(
     source: &[u8],
@@ -272,8 +273,8 @@ pub(crate) fn append(
 /// Writes the code of the open block, unless the frame ends with a full block, and returns the frame's length. Before
 /// the call, the byte in the code's place may have any value.
 // The test whether `index` is within the slice comes first, though `index` can be outside only after a full block.
-// Without this test, compilers test in the caller's loop over single bytes whether the last block is full. In the Rust
-// crate with link-time optimization, that loop can then be half as fast.
+// Without this first test, compilers put the test whether the last block is full into the caller's loop over single
+// bytes. In the Rust crate with link-time optimization, that loop can then be half as fast.
 #[inline(always)]
 pub(crate) fn close_block(dest: &mut [u8], encoder: &UnbufferedEncoder) -> usize {
     let index = encoder.index;
@@ -287,7 +288,7 @@ pub(crate) fn close_block(dest: &mut [u8], encoder: &UnbufferedEncoder) -> usize
 
 /// Writes the code of the open block, unless the frame ends with a full block, and returns the frame's length, as
 /// [`close_block`] does. If the frame ends with a full block, and the target has SIMD vectors, `close` also stores the
-/// next byte of the slice, if the slice has one: it stores the value that this byte already has.
+/// next byte of the slice, if there is one. It stores the value that this byte already has.
 // With this store, compilers keep the caller's loop over single bytes as it is written. If only an open block's code
 // were stored, this loop would be slower in the Rust crate on x86-64. On a target without vectors `close` calls
 // `close_block`, which needs fewer bytes of flash.

@@ -42,8 +42,8 @@ pub(crate) fn write_each(source: &[u8], dest: &mut [u8]) -> usize {
 }
 
 /// Encodes a message as [`try_encode`](crate::try_encode) does, but one byte at a time. The code of this function is
-/// smaller and slower; it is meant for small devices. The function reads the message twice only if `dest` is shorter
-/// than the longest frame of a message of the same length.
+/// smaller and slower than that of `try_encode`; it is meant for small devices. The function reads the message twice
+/// only if `dest` is shorter than the longest frame of a message of the same length.
 ///
 /// # Errors
 /// The errors are those of [`try_encode`](crate::try_encode).

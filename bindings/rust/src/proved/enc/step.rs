@@ -14,8 +14,8 @@ impl UnbufferedEncoder {
     // In each case the byte at index `next` is the last byte of the frame.
     #[inline(always)]
     pub(crate) fn append_byte(&mut self, dest: &mut [u8], byte: u8) -> usize {
-        // `code` is the code of the open block before this byte. If the byte joins this block, the same number is how many
-        // bytes the block then has, so `taken` becomes `code`. If the byte ends the block, `taken` becomes 0.
+        // `code` is the code of the open block before this byte. If the byte joins this block, the block then has `code`
+        // bytes after its code, so `taken` becomes `code`. If the byte ends the block, `taken` becomes 0.
         let index = self.index;
         let mut code = self.taken as usize + 1;
         let next = index + code;
@@ -123,7 +123,7 @@ impl UnbufferedEncoder {
     /// Encodes the next bytes of the message, one byte at a time.
     ///
     /// The effect and the result are those of [`push`](UnbufferedEncoder::push). The code of `push_each` is smaller and
-    /// slower; it is meant for small devices.
+    /// slower than that of `push`; it is meant for small devices.
     ///
     /// # Errors
     /// The errors are those of [`push`](UnbufferedEncoder::push).

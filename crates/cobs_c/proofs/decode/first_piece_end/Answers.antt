@@ -1,6 +1,6 @@
 -- The bytes after the leading zeros, up to the next zero, are the first piece, by `law_12` (`first_some`). If no bytes
 -- are there, the source has no piece (`first_none`).
--- `law_12`: A stream's first piece, and its last.
+-- `law_12`: The first and the last piece of a stream.
 use Rattle.std.proofs.Common.{◌-◌, ℕ, List, length, take, drop, ap, ◌∙◌, arith, length-drop, length-take-le}
 use Rattle.std.proofs.lemmas.List.{take_rest}
 use Rattle.cobs_c.proofs.SourceLemmas.{first_none, first_some}

@@ -1,6 +1,6 @@
 -- The bytes before the first sentinel are the head of the bytes that are XORed with it, by `law_12`. So the end is the
 -- head's length, and one more if a sentinel follows.
--- `law_12`: A stream's first piece, and its last.
+-- `law_12`: The first and the last piece of a stream.
 use Rattle.std.proofs.Common.{ℕ, ap, arith, length, take, length-take-le}
 use Rattle.std.proofs.lemmas.List.{length-map}
 use Rattle.std.specs.Int.Bits.{bit_xor}

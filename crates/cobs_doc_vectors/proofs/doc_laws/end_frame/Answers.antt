@@ -1,5 +1,5 @@
 -- By `fed` of `law_18`, the zero after a frame f returns the length of the frame's message m, since m fits (`held`).
--- `law_18`: A frame is decoded as its message however it is streamed, and nothing else is.
+-- `law_18`: Streaming decoders return the message of each frame, and no other message.
 use Rattle.cobs_doc_vectors.proofs.doc_laws.end_frame.Goals as goal
 
 pub returns : goal.returns

@@ -1,6 +1,6 @@
 -- The bytes up to the first zero are the head of the buffer, by `law_12`. The clauses of `decode_blocks_each` give the
 -- result and the buffer for this head.
--- `law_12`: A stream's first piece, and its last.
+-- `law_12`: The first and the last piece of a stream.
 use Rattle.std.proofs.Common.{◌≡◌, ◌∙◌, ◌+◌, ◌<◌, ℕ, List, [], ◌∷◌, length, take, min, refl, sym, ap, arith, length-take-le}
 use Rattle.std.proofs.lemmas.Bool.{eqb-false, eqb-true}
 use Rattle.std.proofs.lemmas.List.{drop_all}

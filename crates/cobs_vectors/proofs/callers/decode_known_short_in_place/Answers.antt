@@ -1,6 +1,6 @@
 -- The frame contains no zero, so it is its own head (`is`, by `head` of `law_12`), and both have the same length
 -- (`long`). `decode_short_in_place` decodes such a frame if it has 2 to 65 bytes and its last block is whole (`taken`).
--- `law_12`: A stream's first piece, and its last.
+-- `law_12`: The first and the last piece of a stream.
 use Rattle.std.proofs.Common.{◌≡◌, ◌∙◌, ℕ, List, ap, length, sym, arith, take_all}
 use Rattle.cobs.specs.Piece.{last_part, missing}
 use Rattle.cobs.specs.Stream.{head}

@@ -1,6 +1,6 @@
 -- For the zero, the decoder returns the message of the frame that was fed, by `law_18: fed`. So the other arms are
 -- never reached.
--- `law_18`: A frame is decoded as its message however it is streamed, and nothing else is.
+-- `law_18`: Streaming decoders return the message of each frame, and no other message.
 use Rattle.std.proofs.Common.{◌≡◌, ◌∙◌, ap, length, sym, take, Ok}
 use Rattle.cobs_vectors.proofs.clients.on_zero.Goals as goal
 

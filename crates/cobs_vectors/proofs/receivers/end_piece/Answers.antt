@@ -1,5 +1,5 @@
 -- By `fed_only` of `law_18`, the bytes f that were fed read as the message that the zero returned.
--- `law_18`: A frame is decoded as its message however it is streamed, and nothing else is.
+-- `law_18`: Streaming decoders return the message of each frame, and no other message.
 use Rattle.cobs_vectors.proofs.receivers.end_piece.Goals as goal
 
 pub returns-in-Ok-Some : goal.returns-in-Ok-Some

@@ -1,6 +1,6 @@
 -- By `pushed` and `pushed_only` of `law_18`, a message is returned exactly if the piece reads as this message and the
 -- message fits the buffer (`reported`).
--- `law_18`: A frame is decoded as its message however it is streamed, and nothing else is.
+-- `law_18`: Streaming decoders return the message of each frame, and no other message.
 use Rattle.std.proofs.Common.{◌↔◌, ◌<◌, ◌≤◌, List, ℕ, length}
 use Rattle.std.proofs.lemmas.List.Elements.{All-from_get_or}
 use Rattle.cobs.specs.Grammar.{Reads}

@@ -1,6 +1,6 @@
 -- The piece that ends is the piece that was fed. So by `taken` and `taken_only` of `law_18`, its outcome is a message
 -- exactly if it reads as that message.
--- `law_18`: A frame is decoded as its message however it is streamed, and nothing else is.
+-- `law_18`: Streaming decoders return the message of each frame, and no other message.
 use Rattle.std.proofs.Common.{◌≡◌, ◌<◌, ◌≤◌, ◌∙◌, [], List, ℕ, Some, length, take, ap, subst, sym}
 use Rattle.std.proofs.lemmas.List.Elements.{All-from_get_or}
 use Rattle.cobs.specs.declared.PieceEnd.TheVariants.{Broken, Message, TooLong}

@@ -1,6 +1,6 @@
 -- The buffer holds the output of the last piece, by `TakesPiece: holds`. That piece is all bytes that were received
 -- (`cut_off`), or all except the zero (`ended`), by `law_12`.
--- `law_12`: A stream's first piece, and its last.
+-- `law_12`: The first and the last piece of a stream.
 use Rattle.std.proofs.Common.{◌≡◌, ◌≢◌, ◌+◌, ◌∙◌, [], ◌∷◌, ◌++◌, List, ℕ, Option, Some, None, length, take, ap, arith, length-append, take_all}
 use Rattle.std.proofs.lemmas.List.Elements.{All-take}
 use Rattle.cobs.specs.Feed.{DecoderAfter, Phase}
