@@ -1,6 +1,6 @@
 -- Bytes read from code to code: fed to a decoder, their output as a piece, in two parts, and up to their last code. By induction
 -- on `walked`, and `quiet` for the output.
-use Rattle.std.proofs.Common.{◌≡◌, ◌≢◌, ℕ, zero, suc, ◌+◌, ◌-◌, ◌<◌, ◌≤◌, eqb, List, [], ◌∷◌, ◌++◌, length, take, drop, get_or, set, refl, ap, arith, append_assoc, append-nil, length-set, length-drop, length-take-le, take-append-drop, take_all}
+use Rattle.std.proofs.Common.{◌≡◌, ◌≢◌, ℕ, zero, suc, ◌+◌, ◌-◌, ◌<◌, ◌≤◌, eqb, List, [], ◌∷◌, ◌++◌, length, take, drop, get_or, set, refl, ap, ◌∙◌, arith, append_assoc, append-nil, length-set, length-drop, length-take-le, take-append-drop, take_all}
 use Rattle.std.proofs.lemmas.List.{drop_all, drop_more, drop-set-lt, take_more_set}
 use Rattle.std.proofs.lemmas.List.Elements.{All-head, All-tail, All-cons, All-get_or, All-drop}
 use Rattle.std.proofs.lemmas.Bool.{ne_eqb, lt-ltb}
@@ -37,18 +37,25 @@ fed_walked (x ∷ xs) buffer code zero count nz full few room =
     (λ e. omega (arith, few (omega arith))) (λ h. omega (arith, few (omega arith))) (omega (arith, length-set buffer count 0)) in
     grind (arith, All-head, length-set, over, ne_eqb, lt-ltb, over-cons)
 
+-- fed from the front of a piece, they are written with a zero over each code but the first
+pub fed_piece : (first : ℕ) (bytes buffer : List ℕ) {ys : List ℕ} {code left : ℕ}
+    → IsWalked ys code left first (first - 1) bytes → length bytes < 254 → HasNoZero (first ∷ bytes) → length bytes ≤ length buffer
+    → FeedsQuietly buffer Idle (first ∷ bytes) (over 0 buffer ys) (Within (eqb code 255) left (length bytes))
+fed_piece first bytes buffer w few nz room =
+    let some = All-head (λ b. b ≢ 0) first bytes nz in
+    let fed = fed_walked bytes buffer first (first - 1) 0 (All-tail (λ b. b ≢ 0) first bytes nz) (λ e. omega arith) (λ h. few) (omega (arith, room)) in
+    grind arith
+
 -- so they are the output of the piece that begins with this code
 pub as_piece : (first : ℕ) (bytes : List ℕ) {ys : List ℕ} {code left : ℕ} → IsWalked ys code left first (first - 1) bytes → length bytes < 254 → HasNoZero (first ∷ bytes)
     → (ys ≡ output (first ∷ bytes)) × (left ≡ missing (last_part (first ∷ bytes)))
 as_piece first bytes {ys} {code} {left} w few nz =
-    let v = walked first (first - 1) bytes in
-    let some = All-head (λ b. b ≢ 0) first bytes nz in
-    let f : FeedsQuietly bytes Idle (first ∷ bytes) (over 0 bytes v.0) (Within (eqb v.1 255) v.2 (0 + length bytes))
-    = let fed = fed_walked bytes bytes first (first - 1) 0 (All-tail (λ b. b ≢ 0) first bytes nz) (λ e. omega arith) (λ h. few) (omega arith) in grind arith in
-    let q = quiet (first ∷ bytes) bytes (over 0 bytes v.0) (Within (eqb v.1 255) v.2 (0 + length bytes)) nz f in
+    let fed = fed_piece first bytes bytes w few nz (omega arith) in
+    let q = quiet (first ∷ bytes) bytes (over 0 bytes ys) (Within (eqb code 255) left (length bytes)) nz fed in
     let counts = quiet-within q in
-    let all : length (output (first ∷ bytes)) ≡ length v.0 = omega (arith, counts.0, length-walked first (first - 1) bytes) in
-    let whole : over 0 bytes v.0 ≡ v.0 = rw (drop_all (0 + length v.0) bytes (omega (arith, length-walked first (first - 1) bytes))) (append-nil v.0) in
+    let long : length ys ≡ length bytes = ap (λ (v : List ℕ × ℕ × ℕ). length v.0) w ∙ length-walked first (first - 1) bytes in
+    let all : length (output (first ∷ bytes)) ≡ length ys = omega (arith, counts.0, long) in
+    let whole : over 0 bytes ys ≡ ys = rw (drop_all (0 + length ys) bytes (omega (arith, long))) (append-nil ys) in
     let begins = rw whole at q.after.begins in
     grind (arith, take_all)
 

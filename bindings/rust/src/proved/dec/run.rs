@@ -12,7 +12,7 @@ use crate::proved::cobs_bytes::window::{
 };
 use crate::proved::dec::span::{write_zeros_at_codes, write_zeros_at_copied};
 use crate::proved::dec::step::joint_after;
-use crate::proved::dec::unbuffered::{START, UnbufferedDecoder};
+use crate::proved::dec::unbuffered::UnbufferedDecoder;
 use crate::proved::find::zero_or_len;
 
 /// The greatest number of bytes in a span. A full block is longer than a span. So if a full block begins in a span, the
@@ -173,22 +173,32 @@ impl UnbufferedDecoder {
         true
     }
 
-    /// Decodes `bytes`, the first bytes of a piece, if there are at least 2 bytes and `dest` has room for their output.
-    /// Returns whether it decoded the bytes. If it returns false, nothing has changed. The caller ensures that `bytes`
-    /// has at most 65 bytes, and that none of them is a zero.
+    /// Decodes `bytes`, the first bytes of a piece, and returns true, or decodes nothing and returns false. The caller
+    /// ensures that `bytes` has at most 65 bytes, and that none of them is a zero. The function decodes the bytes only
+    /// if all these conditions hold:
+    ///
+    /// - There are at least 2 bytes.
+    /// - `dest` has room for the output of the bytes.
+    /// - The first 32 bytes aren't all codes 01. Such bytes are decoded faster by [`take_run`](Self::take_run), which
+    ///   decodes rows of 32 codes in one step.
     #[inline(always)]
     pub(crate) fn take_front(&mut self, dest: &mut [u8], bytes: &[u8]) -> bool {
         let len = bytes.len();
-        if len < 2 || dest.len() < len - 1 {
+        if len < 2
+            || dest.len() < len - 1
+            || (WINDOW <= len && bytes[0] == 1 && is_all(bytes, 0, 1))
+        {
             return false;
         }
-        // The decoder is idle, so `self` equals `START`. The function uses the constant `START`, because then the
-        // fields of `self` needn't be loaded.
-        let mut begun = START;
-        begun.take_joint(dest, bytes[0]);
         let _zeros = copy_window(&bytes[1..], dest, 0);
-        begun.take_copied(dest, &bytes[1..], 0);
-        *self = begun;
+        let first = bytes[0] as usize;
+        let (code, missing) = write_zeros_at_copied(&mut dest[..len - 1], &bytes[1..], first, 0);
+        *self = UnbufferedDecoder {
+            written: len - 1,
+            missing,
+            joint: joint_after(code),
+            too_long: 0,
+        };
         true
     }
 

@@ -1,13 +1,72 @@
--- `take_copied` is called with sentinel 0, by which XOR changes nothing (`xor_each-zero`).
-use Rattle.std.proofs.Common.{◌≢◌, drop, arith}
-use Rattle.std.proofs.lemmas.Grind.{common_steps}
+-- The bytes after the first code are copied (`front-is`), and a zero is written over each code among them. So they are
+-- decoded as the front of a piece (`fed`).
+use Rattle.std.proofs.Common.{◌≡◌, ◌≢◌, ◌-◌, ◌+◌, ◌∷◌, ◌++◌, ◌∙◌, ◌≤◌, ◌<◌, eqb, ℕ, List, ap, refl, subst, sym, arith, drop, get_or, length, length-drop, take}
 use Rattle.std.proofs.lemmas.List.{take_rest}
-use Rattle.std.proofs.lemmas.List.Elements.{All-drop}
+use Rattle.std.proofs.lemmas.List.Elements.{All-cons, All-drop, All-get_or}
+use Rattle.std.proofs.Math.Seq.{drop-append_seam, take-append_seam}
+use Rattle.cobs.specs.Feed.{Idle, Within}
+use Rattle.cobs.specs.Fields.Decoders.{phase_with}
+use Rattle.cobs.specs.Grammar.{HasNoZero}
+use Rattle.cobs.specs.Internal.FeedsQuietly.{FeedsQuietly}
+use Rattle.cobs.proofs.streaming.RunLemmas.{over, phase_with-begun}
+use Rattle.cobs.proofs.streaming.SpanLemmas.{joint-is}
+use Rattle.cobs.proofs.streaming.WalkLemmas.{fed_piece, length-walked, IsWalked}
 use Rattle.cobs.proofs.dec.unbuffered.UnbufferedDecoder.take_front.Goals as goal
 use Rattle.cobs_bytes.proofs.bytes.XoredLemmas.{xor_each-zero}
 
-pub take_copied-requires-clause-copied : goal.take_copied-requires-clause-copied
-take_copied-requires-clause-copied c = grind (arith, common_steps, xor_each-zero)
+-- 2 to 65 bytes of a piece; those after the first one are copied to the front of a buffer
+module _ (bytes dest copied : List ℕ) (some : 1 < length bytes) (few : length bytes ≤ 65) (nz : HasNoZero bytes)
+    (is : copied ≡ over 0 dest (take (length bytes - 1) (drop 1 bytes))) where
+  abbrev codes : List ℕ
+  codes = drop 1 bytes
 
-pub take_copied-requires-clause-nonzero : goal.take_copied-requires-clause-nonzero
-take_copied-requires-clause-nonzero c = rw (take_rest c.args.bytes.now 1, xor_each-zero (drop 1 c.args.bytes.now)) (All-drop (λ b. b ≢ 0) 1 c.args.bytes.now c.requires.nonzero)
+  abbrev first : ℕ
+  first = get_or bytes 0 0
+
+  -- the first byte, and the bytes after it
+  are : bytes ≡ first ∷ codes
+  are = grind arith
+
+  long : length codes ≡ length bytes - 1
+  long = length-drop 1 bytes
+
+  front-is : take (length bytes - 1) copied ≡ codes
+  front-is = rw (is, take_rest bytes 1) (ap (λ (i : ℕ). take i (over 0 dest codes)) (sym long) ∙ take-append_seam codes _)
+
+  behind-is : drop (length bytes - 1) copied ≡ drop (0 + length codes) dest
+  behind-is = rw (is, take_rest bytes 1) (ap (λ (i : ℕ). drop i (over 0 dest codes)) (sym long) ∙ drop-append_seam codes (drop (0 + length codes) dest))
+
+  nonzero : HasNoZero (first ∷ codes)
+  nonzero = All-cons (λ b. b ≢ 0) first codes (All-get_or (λ b. b ≢ 0) bytes 0 0 (omega (arith, some)) nz) (All-drop (λ b. b ≢ 0) 1 bytes nz)
+
+  fed : length bytes - 1 ≤ length dest → (ys : List ℕ) (code left joint : ℕ)
+      → IsWalked ys code left first (first - 1) (take (length bytes - 1) copied) → eqb joint 0 ≡ eqb code 255
+      → FeedsQuietly dest Idle bytes (ys ++ drop (length bytes - 1) copied) (phase_with (eqb joint 0) left (length bytes - 1))
+  fed room ys code left joint walk due =
+      let w = rw front-is at walk in
+      let f = fed_piece first codes dest w (omega (arith, long, few)) nonzero (omega (arith, long, room)) in
+      let same : length ys ≡ length codes = ap (λ (v : List ℕ × ℕ × ℕ). length v.0) w ∙ length-walked first (first - 1) codes in
+      let buffer : over 0 dest ys ≡ ys ++ drop (length bytes - 1) copied = rw (behind-is, same) refl in
+      let phase : phase_with (eqb joint 0) left (length bytes - 1) ≡ Within (eqb code 255) left (length codes)
+      = rw (due, long) (phase_with-begun (eqb code 255) left (length bytes - 1) (omega (arith, some))) in
+      rw (phase, ← buffer) (subst (λ xs. FeedsQuietly dest Idle xs (over 0 dest ys) (Within (eqb code 255) left (length codes))) (sym are) f)
+
+pub write_zeros_at_copied-code-requires-clause-copied : goal.write_zeros_at_copied-code-requires-clause-copied
+write_zeros_at_copied-code-requires-clause-copied c =
+    let bytes : List ℕ = c.args.bytes.now in
+    rw (xor_each-zero (take (length bytes - 1) (drop 1 bytes)))
+        (front-is bytes c.args.dest.now c.copy_window-zeros.new.dest c.if-len-lt2.false c.requires.few c.requires.nonzero
+            c.copy_window-zeros.ensures.copied ∙ sym (take_rest bytes 1))
+
+pub write_zeros_at_copied-code-requires-clause-nonzero : goal.write_zeros_at_copied-code-requires-clause-nonzero
+write_zeros_at_copied-code-requires-clause-nonzero c =
+    let bytes : List ℕ = c.args.bytes.now in
+    let copied : List ℕ = c.copy_window-zeros.new.dest in
+    let is = c.copy_window-zeros.ensures.copied in
+    rw (front-is bytes c.args.dest.now copied c.if-len-lt2.false c.requires.few c.requires.nonzero is)
+        (nonzero bytes c.args.dest.now copied c.if-len-lt2.false c.requires.few c.requires.nonzero is)
+
+pub returns-clause-fed : goal.returns-clause-fed
+returns-clause-fed c taken =
+    rw c.requires.idle (fed c.args.bytes.now c.args.dest.now c.copy_window-zeros.new.dest c.if-len-lt2.false c.requires.few c.requires.nonzero
+        c.copy_window-zeros.ensures.copied c.if-dest-len.false _ _ _ _ c.write_zeros_at_copied-code.ensures (joint-is _ _ c.joint_after.ensures.full c.joint_after.ensures.other))
