@@ -117,7 +117,7 @@ fn a_failed_write_ends_a_run(rt: HostRuntime) -> Result<(), Fail> {
     ];
     for (kind, fault) in faults {
         // Each write accepts one byte of the text, which has 59 bytes.
-        for failing in 0..58 {
+        for failing in 0..59 {
             let mut input = AnyInput::new(STREAM);
             let mut output = BufWriter::new(alloc, writer(alloc, failing, kind))?;
             let shown = show(alloc, &mut input, &mut output)?;
