@@ -1,13 +1,17 @@
 #!/usr/bin/env python3
-"""Compares decoding by two versions of libjcobs at twelve lengths: lengths.py [--docs] [--runs NUMBER] FOLDER
+"""Compares decoding by two versions at twelve lengths: lengths.py [--docs] [--runs NUMBER] FOLDER
 
 FOLDER is a checkout of the other version, with its prebuilt library. For docs/DECISIONS.md, into which --docs writes the
-tables, `git worktree add FOLDER 698a4ba` makes this folder. Both libraries are linked into one program (lengths.c), which
-decodes messages of seven kinds. The first table has the speed relative to the other version, by the least time of NUMBER
-runs (default 8). The second table has the instructions of the other version divided by those of this version, which
-Callgrind counts. Each figure of these two tables is a geometric mean over the kinds. The third table has the speed of the
-C library's own search and copies, without any test: it shows how fast a decoder can be that searches once and copies each
-block. The script needs cc, objcopy and valgrind, and took a minute on a machine with other load.
+tables, `git worktree add FOLDER 698a4ba` makes this folder. Both versions are linked into one program, which decodes
+messages of seven kinds: lengths.c with libjcobs, lengths.rs with the Rust crate.
+
+The first table has the speed of libjcobs relative to the other version, by the least time of NUMBER runs (default 8). The
+second table has the instructions of the other version divided by those of this version, which Callgrind counts. The third
+table has the speed of the Rust crate relative to the other version, with the feature `std` and without it. Each figure of
+these three tables is a geometric mean over the kinds. The fourth table has the speed of the C library's own search and
+copies, without any test: it shows how fast a decoder can be that searches once and copies each block.
+
+The script needs cc, objcopy, valgrind, rustc and the crate `memchr` (Debian's librust-memchr-dev), and took three minutes.
 """
 
 import argparse
@@ -35,6 +39,10 @@ CALLS = {
     "stream": "a stream of frames, each push gets all bytes that are left",
     "in place": "`decode_in_place`",
 }
+# The calls that lengths.rs names, and the features of the two builds.
+RUST_CALLS = ["decode", "push whole", "push 64", "in place"]
+BUILDS = {"with `std`": ["std", "alloc"], "without `std`": ["alloc"]}
+MEMCHR = "/usr/share/cargo/registry"
 SMALL_NUMBERS = "i32, 16 bits"
 NO_ZEROS = "none"
 # The rows of the third table, and the lengths that are its columns.
@@ -58,6 +66,26 @@ def program(old, work):
     return work / "lengths"
 
 
+def rust_program(old, work, features):
+    """Links lengths.rs with the Rust crates of both versions. The older one is the crate `jcobs_old`."""
+    found = sorted(Path(MEMCHR).glob("memchr-2.*"))
+    if not found:
+        sys.exit("lengths.py needs the crate memchr: apt-get install librust-memchr-dev")
+    flags = ["--edition", "2021", "-C", "opt-level=3", "-C", "codegen-units=1", "-L", work, "--out-dir", work]
+    library = ["rustc", *flags, "--crate-type", "rlib", "--cap-lints", "allow"]
+    # What the build script of this version of memchr asks for on x86-64.
+    for name in ["memchr_runtime_simd", "memchr_runtime_sse2", "memchr_runtime_sse42", "memchr_runtime_avx"]:
+        library += ["--cfg", name]
+    for feature in features:
+        library += ["--cfg", f'feature="{feature}"']
+    run(*library, "--crate-name", "memchr", found[-1] / "src/lib.rs")
+    for name, top in {"jcobs_old": old, "jcobs": TOP}.items():
+        run(*library, "--crate-name", name, "--extern", f"memchr={work}/libmemchr.rlib", top / "bindings/rust/src/lib.rs")
+    externs = [f"--extern={name}={work}/lib{name}.rlib" for name in ["jcobs_old", "jcobs"]]
+    run("rustc", *flags, *externs, HERE / "lengths.rs")
+    return work / "lengths"
+
+
 def rows(text):
     return [tuple(line.split(";")) for line in text.splitlines()]
 
@@ -66,7 +94,7 @@ def timed(compiled, runs):
     """The ratio of the least times for each call, kind and length."""
     found = {}
     for _ in range(runs):
-        for *key, old, new in rows(run(compiled, "time")):
+        for *key, old, new in rows(run(*compiled)):
             before = found.get(tuple(key), (float("inf"),) * 2)
             found[tuple(key)] = (min(float(old), before[0]), min(float(new), before[1]))
     return {key: old / new for key, (old, new) in found.items()}
@@ -81,8 +109,8 @@ def counted(compiled, work):
     return {key: parts[2 * i] / parts[2 * i + 1] for i, key in enumerate(keys)}
 
 
-def table(ratios):
-    def mean(call, lengths=None, without=None):
+def cells(ratios, call):
+    def mean(lengths=None, without=None):
         chosen = [
             r
             for (c, kind, n), r in ratios.items()
@@ -90,12 +118,21 @@ def table(ratios):
         ]
         return statistics.geometric_mean(chosen)
 
+    short = [mean([2**i]) for i in range(7)]
+    all_cells = [f"{mean():.2f}", f"{min(short):.2f} to {max(short):.2f}", f"{mean([200]):.2f}"]
+    all_cells += [f"{mean([65536]):.2f}", f"{mean(without=SMALL_NUMBERS):.2f}"]
+    return " | ".join(all_cells)
+
+
+def table(ratios):
+    return "\n".join([HEAD, *(f"| {title} | {cells(ratios, call)} |" for call, title in CALLS.items())])
+
+
+def rust_table(by_build):
     lines = [HEAD]
-    for call, title in CALLS.items():
-        short = [mean(call, [2**i]) for i in range(7)]
-        cells = [f"{mean(call):.2f}", f"{min(short):.2f} to {max(short):.2f}", f"{mean(call, [200]):.2f}"]
-        cells += [f"{mean(call, [65536]):.2f}", f"{mean(call, without=SMALL_NUMBERS):.2f}"]
-        lines.append(f"| {title} | {' | '.join(cells)} |")
+    for call in RUST_CALLS:
+        for build, ratios in by_build.items():
+            lines.append(f"| {CALLS[call]}, {build} | {cells(ratios, call)} |")
     return "\n".join(lines)
 
 
@@ -129,14 +166,20 @@ def main():
     options = parser.parse_args()
     if options.docs and platform.machine() != "x86_64":
         sys.exit("the tables of docs/DECISIONS.md are of x86-64")
+    old = options.old.resolve()
     with tempfile.TemporaryDirectory() as folder:
-        compiled = program(options.old, Path(folder))
-        speed = timed(compiled, options.runs)
+        compiled = program(old, Path(folder))
+        speed = timed([compiled, "time"], options.runs)
         load = os.getloadavg()[0]
         instructions = counted(compiled, Path(folder))
-    commits = f"commit {commit_of(TOP)} compared with {commit_of(options.old)}"
+    rust = {}
+    for build, features in BUILDS.items():
+        with tempfile.TemporaryDirectory() as folder:
+            rust[build] = timed([rust_program(old, Path(folder), features)], options.runs)
+    commits = f"commit {commit_of(TOP)} compared with {commit_of(old)}"
     text = f"**By time**, {commits}, at a load average of {load:.0f}:\n\n{table(speed)}\n\n"
     text += f"**By instructions**, {commits}, including the instructions of the caller's loop:\n\n{table(instructions)}\n\n"
+    text += f"**By time, the Rust crate**, {commits}:\n\n{rust_table(rust)}\n\n"
     text += f"**By time**, {commits}, only messages without zeros:\n\n{bound(speed)}\n"
     print(text)
     if options.docs:
