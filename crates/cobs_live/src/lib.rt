@@ -1,5 +1,5 @@
-//! Shows the frames of a serial line as they arrive, and sends each line of a text as a frame, over any reader and
-//! writer.
+//! Shows the frames of a serial line as they arrive, and sends each line of a text as a frame. The functions read from any
+//! reader, and write to any writer.
 //!
 //! This crate is the program `cobs_watch` without its command line. `show::run_show` reads a stream of frames, and
 //! shows each piece when its sentinel arrives. `send::run_send` sends each line of an input as a frame.

@@ -378,7 +378,8 @@ fn front(bytes: &[u8]) -> &[u8]
     bytes
 }
 
-/// Returns the index after the first zero if this zero is among the first `most` bytes, and otherwise `None`.
+/// Looks for a zero among the first `most` bytes. Returns the index after the first such zero, or `None` if there is
+/// no zero among them.
 #[inline(always)]
 fn end_within(bytes: &[u8], most: usize) -> Option<usize>
     requires few { most ≤ 64 }

@@ -149,8 +149,8 @@ fn message_sight<'a>(checksum: &Option<Checksum>, message: &'a [u8]) -> Sight<'a
     }
 }
 
-/// States a law: if a message is sent with a checksum, it is shown as the sender had it, without the checksum. This
-/// function does nothing when it runs.
+/// States a law: if a message is sent with its checksum after it, the message is shown unchanged, without the checksum.
+/// This function does nothing when it runs.
 pub fn sum_law()
     ensures back { (checksum : Checksum) (message : List ℕ)
         → seen_message (Some checksum) (with_sum (Some checksum) message)

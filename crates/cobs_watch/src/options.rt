@@ -220,7 +220,7 @@ fn stamp_of(matches: &ArgMatches<'_>) -> Stamp {
 /// output.
 ///
 /// # Errors
-/// Returns an error if the arguments ask for both colours and a log.
+/// Returns an error if the arguments have both `--color always` and `--log`.
 fn color_of(alloc: Global, matches: &ArgMatches<'_>, auto_color: bool) -> Result<bool, Error> {
     let color = matches.get_str("color");
     if matches.get_str("log").is_none() {

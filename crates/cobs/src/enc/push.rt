@@ -1,4 +1,4 @@
-//! The calls of `UnbufferedEncoder` that encode any number of bytes, and that end a message.
+//! Two calls of `UnbufferedEncoder`: `push`, which encodes any number of bytes, and `finalize`, which ends a message.
 ghost use Rattle.std.specs.Prelude.{◌≡◌, ◌<◌, ◌≤◌, ◌++◌, ◌↔◌, [], ℕ, List, length, take, drop, IsOk, IfOk, OnOk, OnErr, false};
 ghost use Rattle.cobs.specs.Grammar.{HasNoZero, IsEncodedFrame};
 ghost use Rattle.cobs.specs.Length.{encoded_len};

@@ -51,10 +51,11 @@ pub fn law_15()
 /// block's code. At the end of the message the encoder writes the code of the open block, unless the last block is
 /// full.
 ///
-/// If more bytes of the message follow, the length of the whole frame is the sum of two numbers. The first number is
-/// the index of the open block. The second number is the length of the encoded frame of another message: the bytes of
-/// the open block without its code, and then the bytes that follow. The clause `goes_on` states this sum. In place of
-/// the open block's bytes, it has any list `a` of as many nonzero bytes.
+/// Suppose that the encoder has taken some bytes of the message, perhaps none, and that at least one more byte is to
+/// come. Then the length of the encoded frame of the whole message is the sum of two numbers. The first number is the
+/// index of the open block. The second number is the length of the encoded frame of another message: the bytes of the
+/// open block without its code, and then the bytes that are still to come. The clause `goes_on` states this sum. In
+/// place of the open block's bytes, it has any list `a` of as many nonzero bytes.
 ///
 /// So an encoder of your own that makes these steps writes the frames that [`encode`](crate::encode) writes.
 ///

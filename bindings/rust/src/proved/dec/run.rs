@@ -233,8 +233,8 @@ impl UnbufferedDecoder {
         self.take_span(dest, bytes, sentinel)
     }
 
-    /// Decodes `bytes`, and stops before the first byte for whose output `dest` has no room. Returns how many bytes it
-    /// decoded. The caller ensures that none of the bytes is the sentinel.
+    /// Decodes `bytes` as long as `dest` has room for the output, and returns how many bytes it decoded. The caller
+    /// ensures that none of the bytes is the sentinel.
     #[inline(always)]
     pub(crate) fn take_blocks(&mut self, dest: &mut [u8], bytes: &[u8], sentinel: u8) -> usize {
         // The loop changes `here`, a copy of the decoder, which stays in registers. `too_long` is 0 before the loop and
@@ -257,8 +257,8 @@ impl UnbufferedDecoder {
         taken
     }
 
-    /// Decodes `bytes`, and stops before the first zero, or before the first byte for whose output `dest` has no room.
-    /// Returns how many bytes it decoded. The function searches for the first zero once, before it decodes the bytes.
+    /// Decodes `bytes` up to the first zero, as long as `dest` has room for the output. Returns how many bytes it
+    /// decoded. The function searches for the first zero once, before it decodes the bytes.
     /// If the piece is already too long for the buffer, the function decodes nothing.
     #[inline(always)]
     pub(crate) fn take_run(&mut self, dest: &mut [u8], bytes: &[u8]) -> usize {

@@ -1,5 +1,5 @@
 // Made by bindings/rust/translate.py from `crates/cobs/src/enc/push.rt`: change that file, and run it again.
-//! The calls of `UnbufferedEncoder` that encode any number of bytes, and that end a message.
+//! Two calls of `UnbufferedEncoder`: `push`, which encodes any number of bytes, and `finalize`, which ends a message.
 
 use crate::proved::cobs_bytes::window::has_vectors;
 use crate::proved::enc::UnbufferedEncoder;
