@@ -9,7 +9,6 @@ use Rattle.std.proofs.Math.Seq.{take-set-lt}
 use Rattle.std.proofs.lemmas.Bool.{cases_eq}
 use Rattle.std.proofs.lemmas.List.{drop-drop, drop-take, take-take, get_or-take, get_or-drop, drop-set-lt, length-set, length-replicate, take-set}
 use Rattle.std.specs.Int.Count.{trailing_of_zero}
-use Rattle.std.proofs.lemmas.Grind.{common_steps}
 use Rattle.cobs.proofs.encoding.OpenedLemmas.{Opened-same}
 use Rattle.cobs.specs.Grammar.{HasNoZero}
 use Rattle.cobs.specs.OpenBlock.{Reached, end_after, next_of, place_at}
@@ -39,7 +38,7 @@ copied-by {s} {slice} {after} {read} {len} {index} {next} before inside fits is 
       inside = inside;
       room = grind (arith, length-append, length-take-le, length-drop);
       reaches = grind (arith, Opened-same, front-three, behind-three);
-      here = grind (arith, common_steps, mid-three);
+      here = grind (arith, mid-three);
     }
 
 -- the first k copied bytes, which aren't zeros, join the open block

@@ -9,7 +9,7 @@ use Rattle.cobs.proofs.format.LengthLemmas.{stretches-front, encoded_len-full, e
 use Rattle.cobs.proofs.format.UniqueLemmas.{len-blocks}
 use Rattle.cobs.proofs.encoding.OpenLemmas.{message_of-more}
 use Rattle.cobs_bytes.proofs.bytes.ListLemmas.{length-ones, one-nonzero, ones-nonzero}
-use Rattle.cobs.specs.Internal.Reaches.{Opened, ends_in_full}
+use Rattle.cobs.specs.Internal.Reaches.{Opened}
 
 -- the values of the nonzero bytes at the start of a message don't matter
 pub same_start : (a b t : List ℕ) → HasNoZero a → HasNoZero b → length a ≡ length b → encoded_len (a ++ t) ≡ encoded_len (b ++ t)
@@ -54,7 +54,7 @@ pub Opened-len : {slice m : List ℕ} {index next : ℕ} {full : Bool} (t : List
 Opened-len {full = full} t more o =
     let code : ℕ = length o.bytes + 1 in
     let longer = message_of-more o.front code code o.bytes t in
-    grind (arith, length-ones, len-blocks o.front code (o.bytes ++ t) o.each, same_start, ones-nonzero, ends_in_full)
+    grind (arith, length-ones, len-blocks o.front code (o.bytes ++ t) o.each, same_start, ones-nonzero)
 
 -- the length of the frame, byte by byte
 module _ (bytes : List ℕ) (i : ℕ) where

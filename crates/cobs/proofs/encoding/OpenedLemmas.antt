@@ -7,9 +7,9 @@ use Rattle.std.proofs.Math.ListN.{set}
 use Rattle.std.proofs.Math.Seq.{take-set-lt, take-add}
 use Rattle.std.proofs.lemmas.List.{take-take, take-set-le, drop-set-lt, set_split, drop-append-le, drop_all, drop_more, length_push, length-set, set_at, set-append_left, take-append-le}
 use Rattle.std.proofs.lemmas.List.Elements.{All-append, All-push, All-nil}
-use Rattle.cobs.specs.Grammar.{HasNoZero, IsBlock, is_full, joint, message_of, IsFrameOf, IsOpenFrame}
+use Rattle.cobs.specs.Grammar.{HasNoZero, IsBlock, joint, message_of, IsFrameOf, IsOpenFrame}
 use Rattle.cobs.proofs.encoding.OpenLemmas.{message_of-close, message_of-more, blocks-of, f-is, frame_push}
-use Rattle.cobs.proofs.format.FrameLemmas.{append-some, concat-push, last_of-push}
+use Rattle.cobs.proofs.format.FrameLemmas.{concat-push, last_of-push}
 use Rattle.cobs.specs.Internal.Reaches.{Opened, ends_in_full}
 use Rattle.std.proofs.lemmas.Grind.{common_steps}
 use Rattle.cobs.specs.OpenBlock.{OpenBlock, AgreeOutside, IsOpenOutput}
@@ -45,20 +45,20 @@ module _ {slice m : List ℕ} {index next : ℕ} {full : Bool} (o : Opened slice
       → Opened slice (m ++ more) index (next + length more) false
   Opened-join more some nonzero short fits here =
       let sum = length-append o.bytes more in
-      let all : take (next + length more) slice ≡ take next slice ++ more = rw (take-add next (length more) slice, here) refl in
-      let long : length (take next slice) ≡ next = length-take-le next slice (omega arith) in
+      let all : take (next + length more) slice ≡ take next slice ++ more = grind (arith, take-add) in
+      let long : length (take next slice) ≡ next = grind (arith, length-take-le) in
       record {
         front = o.front;
         bytes = o.bytes ++ more;
         each = o.each;
         nonzero = All-append (λ byte. byte ≢ 0) o.bytes more o.nonzero nonzero;
         few = omega arith;
-        message = rw (message_of-more o.front (length (o.bytes ++ more) + 1) (length o.bytes + 1) o.bytes more) (ap (λ x. x ++ more) o.message);
+        message = grind (arith, message_of-more);
         begins = o.begins;
         place = omega arith;
         written = o.written;
-        bytes_there = rw (all, drop-append-le (index + 1) (take next slice) more (omega arith), o.bytes_there) refl;
-        noted = sym (not_full-more o.front o.bytes more some);
+        bytes_there = grind (arith, drop-append-le);
+        noted = grind arith;
       }
 
   -- the code of the open block is written, and the block after it is open
@@ -79,12 +79,12 @@ module _ {slice m : List ℕ} {index next : ℕ} {full : Bool} (o : Opened slice
         each = All-push IsBlock o.front block o.each (sym code-is, omega arith, o.nonzero);
         nonzero = All-nil (λ byte. byte ≢ 0);
         few = omega arith;
-        message = rw (message_of-close front' (append-some o.front block []), last_of-push o.front block, ← code-is) (ap (λ x. x ++ joint ((length o.bytes + 1) ∷ [])) o.message);
-        begins = rw (concat-push o.front block) (omega (arith, length-append (concat o.front) block));
+        message = grind (arith, message_of-close, last_of-push);
+        begins = grind (arith, concat-push, length-append);
         place = refl;
         written = wrote ∙ sym (concat-push o.front block);
-        bytes_there = drop_all (next + 1) (take (next + 1) (set slice index code)) (omega (arith, length-take (next + 1) (set slice index code)));
-        noted = ap is_full (sym (last_of-push o.front block));
+        bytes_there = grind (arith, drop_all, length-take);
+        noted = grind (arith, last_of-push);
       }
 
 -- FROM AN OPEN FRAME
@@ -94,14 +94,13 @@ pub opened-of : {f m slice : List ℕ} {index code next : ℕ} (o : IsOpenFrame 
     → drop (index + 1) (take next slice) ≡ o.bytes → Opened slice m index next (ends_in_full o.front o.bytes)
 opened-of o is front behind =
     let each = blocks-of o in
-    let code-is = each.1.0 in
     record {
       front = o.front;
       bytes = o.bytes;
       each = each.0;
       nonzero = each.1.2;
       few = omega arith;
-      message = rw (← code-is) o.message;
+      message = grind arith;
       begins = o.begins;
       place = omega arith;
       written = front;
@@ -123,14 +122,14 @@ module _ {g m : List ℕ} {state : OpenBlock} (o : IsOpenOutput g state m) where
   output-is = (rw (f-is o.1) at o.2.1) ∙ set_at front state.code o.1.bytes o.2.0 state.index begins
 
   pub length-IsOpenOutput : length g ≡ next
-  length-IsOpenOutput = omega (arith, (blocks-of o.1).1, ap length output-is ∙ length-append front (o.2.0 ∷ o.1.bytes))
+  length-IsOpenOutput = grind (arith, common_steps, output-is)
 
   pub index-IsOpenOutput : state.index < length g
   index-IsOpenOutput = grind (arith, common_steps, length-IsOpenOutput)
 
   pub output-opened : Opened g m state.index next (ends_in_full o.1.front o.1.bytes)
   output-opened =
-      let one : length (front ++ o.2.0 ∷ []) ≡ state.index + 1 = length_push front o.2.0 ∙ omega arith in
+      let one : length (front ++ o.2.0 ∷ []) ≡ state.index + 1 = grind (arith, length_push) in
       let all = take_all next g (omega (arith, length-IsOpenOutput)) in
       opened-of o.1 refl
       (ap (take state.index) output-is ∙ take_at front (o.2.0 ∷ o.1.bytes) state.index begins)
@@ -166,12 +165,12 @@ module _ {slice m : List ℕ} {index next : ℕ} {full : Bool} (o : Opened slice
       let split = take-append-drop index (take next slice) in
       let front = take-take index next slice (omega arith) in
       let rest = drop_more (take next slice) index 0 (omega arith) in
-      let begins : take next slice ≡ concat o.front ++ x ∷ o.bytes = cc (o.written, o.bytes_there) in
+      let begins : take next slice ≡ concat o.front ++ x ∷ o.bytes = cc o.written in
       (x, begins ∙ sym (set_at (concat o.front) code o.bytes x index (sym begins')))
 
   opened-output : code < 255 → length slice ≡ next → IsOpenOutput slice (record { index = index; code = code }) m
   opened-output short long =
-      let all : take next slice ≡ slice = take_all next slice (omega arith) in
+      let all : take next slice ≡ slice = grind (arith, take_all) in
       (_, open_frame short, rw all at (open_slice (omega arith)))
 
 -- ONE MORE BYTE

@@ -1,7 +1,7 @@
 -- Lemmas on how many bytes of a source the core of the encoder has taken, and on how it continues: nonzero bytes join
 -- the open block, and a zero or the 254th byte closes it. By `OpenedLemmas` for the slice, and by `OpenLenLemmas` for
 -- the end of the frame.
-use Rattle.std.proofs.Common.{◌≡◌, ◌≢◌, ℕ, ◌+◌, ◌-◌, ◌<◌, ◌≤◌, Bool, true, false, List, ◌∷◌, ◌++◌, length, drop, take, get_or, replicate, zero, suc, refl, sym, ap, ◌∙◌, arith, inl, inr, ◌⊎◌, append-nil, append_assoc, length-take-le, length-drop}
+use Rattle.std.proofs.Common.{◌≡◌, ◌≢◌, ℕ, ◌+◌, ◌-◌, ◌<◌, ◌≤◌, Bool, true, false, List, ◌∷◌, ◌++◌, length, drop, take, get_or, replicate, zero, suc, refl, sym, ap, arith, inl, inr, ◌⊎◌, append-nil, append_assoc, length-take-le, length-drop}
 use Rattle.std.proofs.Math.ListN.{set}
 use Rattle.std.proofs.Math.Seq.{take-add}
 use Rattle.std.proofs.lemmas.Bool.{cases_eq}
@@ -76,7 +76,7 @@ module _ {s : Start} {slice : List ℕ} {pos index next : ℕ} {P : Bool → Typ
           short = omega arith;
           within = omega arith;
           end = grind arith;
-          rest = drop-set-lt (whole_end s) slice index (next - index) (omega arith) ∙ r.rest;
+          rest = grind (arith, drop-set-lt);
           taken = λ m h.
               let t = r.taken m h in
               let closed = Opened-close t.2 (next - index) (omega arith) (omega arith) in
@@ -115,6 +115,6 @@ Reaches-ones (suc n) {s} {slice} {pos} {index} r within fits zeros ones =
     let zero = alike-first n pos 0 s.source within zeros in
     let one = alike-first (suc n) index 1 slice (omega arith) ones in
     let code : index + 1 - index ≡ get_or slice index 0 = omega arith in
-    let same : set slice index (index + 1 - index) ≡ slice = ap (set slice index) code ∙ set-get_or slice index 0 in
+    let same : set slice index (index + 1 - index) ≡ slice = grind (arith, set-get_or) in
     let closed = rw same at (Reaches-zero r {Q = IsNotFull} fits (omega arith) zero.0 (omega arith) refl) in
     Reaches-at refl (omega arith) (omega arith) (omega arith) (λ full p. p) (Reaches-ones n closed (omega arith) fits zero.1 one.1)

@@ -1,7 +1,6 @@
 -- Lemmas on the length of the frame from its open block on, counted run by run, as `fits` counts it. The bytes of a run
 -- make the open block's code greater, also beyond 255, and `open_len-zero` counts the run's blocks at the zero after it.
 use Rattle.std.proofs.Common.{◌≡◌, ◌≢◌, ℕ, ◌+◌, ◌<◌, ◌≤◌, List, [], ◌∷◌, ◌++◌, length, drop, get_or, arith, length-take-le, length-drop, take-append-drop}
-use Rattle.std.proofs.lemmas.Bool.{cases_eq}
 use Rattle.std.proofs.lemmas.List.{drop-drop, drop_more}
 use Rattle.cobs.specs.Length.{encoded_len, open_len}
 use Rattle.cobs.proofs.encoding.OpenLenLemmas.{open_len-end, open_len-join, open_len-least, open_len-most, open_len-zero}
@@ -29,7 +28,7 @@ skipped source read code k some more few is =
 open_len-longer : (code : ℕ) (m d : List ℕ) → 0 < code → open_len code m ≤ open_len code (m ++ d)
 open_len-longer code [] [] some = omega arith
 open_len-longer code [] (b ∷ d) some = grind (arith, open_len-end, open_len-zero, open_len-byte, (open_len-longer (code + 1) [] d))
-open_len-longer code (b ∷ m) d some = grind (arith, cases_eq, open_len-zero, open_len-byte, (open_len-longer 1 m d), (open_len-longer (code + 1) m d))
+open_len-longer code (b ∷ m) d some = grind (arith, open_len-zero, open_len-byte, (open_len-longer 1 m d), (open_len-longer (code + 1) m d))
 
 pub encoded_len-longer : (m d : List ℕ) → encoded_len m ≤ encoded_len (m ++ d)
 encoded_len-longer m d = open_len-longer 1 m d (omega arith)

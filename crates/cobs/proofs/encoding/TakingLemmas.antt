@@ -34,7 +34,7 @@ reaches-start {source} {old} {r} some code short = grind (arith, append-nil, fro
 -- a byte is written after the open block's bytes
 module _ {s : Start} {slice : List ℕ} {read index next : ℕ} {P : Bool → Type 0} (byte : ℕ) (more : read < length s.source) (r : Reaches s slice read index next P) where
   pub written : Reaches s (set slice next byte) read index next P
-  written = grind (arith, common_steps, drop-set-lt)
+  written = grind (arith, common_steps)
 
   -- a byte that isn't a zero joins the open block
   pub joined : get_or s.source read 0 ≡ byte → byte ≢ 0 → next < index + 255 → whole_end s ≤ length slice → Reaches s (set slice next byte) (read + 1) index (next + 1) IsNotFull
@@ -87,7 +87,7 @@ front-filled {source} {old} {slice} {r} {r'} {pos} {index} {next} fits full s on
     let long = length-set slice index 255 in
     elim (cases_lt pos (length source)) [
       | inl more ↦ front-taken (omega arith) (Reaches-full s {Q = λ noted. noted ≡ true} more full fits refl) (omega arith) (λ all. absurd (omega arith)) (omega arith) is
-      | inr none ↦ (let within = s.within in front-full fits (Reaches-at refl refl refl full (λ full p. p) s) (omega arith) (rw (full, one) at is))
+      | inr none ↦ front-full fits (Reaches-at refl refl refl full (λ full p. p) s) (omega arith) (rw (full, one) at is)
     ]
 
 -- a step that takes no byte

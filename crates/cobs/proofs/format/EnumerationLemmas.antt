@@ -5,7 +5,7 @@ use Rattle.std.proofs.Common.{◌≡◌, ◌≢◌, ℕ, zero, suc, ◌+◌, ◌
 use Rattle.std.specs.List.{concat}
 use Rattle.std.proofs.lemmas.List.Folds.{concat-append}
 use Rattle.std.proofs.lemmas.List.{length_push}
-use Rattle.std.proofs.lemmas.Bool.{cases_eq, eqb-true, eqb-false}
+use Rattle.std.proofs.lemmas.Bool.{cases_eq}
 use Rattle.cobs.specs.Stream.{stretches}
 use Rattle.cobs.specs.Grammar.{is_full, IsFull, joint, lone_block, last_of, IsOpenFrame, Reads, IsEncodedFrame}
 use Rattle.cobs.specs.Length.{full_blocks, last_number, EndsInFullRun, encoded_len}
@@ -44,7 +44,7 @@ ends_in_full g m e =
     let end = shorter_end r.blocks r.frame.some r.frame.each (IsEncodedFrame-shorter g m e) in
     let long = len-blocks end.front end.code end.bytes end.each end.apart in
     let longer = len-blocks end.front end.code (end.bytes ++ 0 ∷ []) end.each (λ full e. omega (arith, ap length e, length-append end.bytes (0 ∷ []))) in
-    grind (arith, full_run-len, message_of-more, encoded_len-last, encoded_len-run, last_of-push, eqb-true, eqb-false)
+    grind (arith, full_run-len, message_of-more, encoded_len-last, encoded_len-run, last_of-push)
 
 -- EACH MESSAGE HAS AN ENCODED FRAME
 

@@ -94,10 +94,10 @@ blocks_behind n [] h below whole = All-nil IsBlock
 blocks_behind (suc n) (x ∷ p) h below whole = blocks_behind n p (All-tail (λ b. b ≢ 0) x p h) (All-tail (λ b. b < 256) x p below) whole
 blocks_behind zero (c ∷ p) h below whole =
     let some : c ≢ 0 = All-head (λ b. b ≢ 0) c p h in
-    let fits : c < 256 = All-head (λ b. b < 256) c p below in
+    let fits : c < 256 = grind (arith, All-head) in
     let rest = blocks_behind (c - 1) p (All-tail (λ b. b ≢ 0) c p h) (All-tail (λ b. b < 256) c p below) in
     let nonzero = All-take (λ b. b ≢ 0) (c - 1) p (All-tail (λ b. b ≢ 0) c p h) in
-    grind (arith, parts_after-past, length-take, All-nil)
+    grind (arith, parts_after-past, length-take)
 
 pub blocks_of_whole : (p : List ℕ) → HasNoZero p → All (λ b. b < 256) p → IsWhole p → All IsBlock (parts p)
 unfolding parts last_part is_whole

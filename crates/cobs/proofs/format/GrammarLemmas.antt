@@ -59,7 +59,7 @@ shorter_end ((c ∷ a) ∷ d ∷ ds) some each shorter =
       front = b ∷ r.front;
       code = r.code;
       bytes = r.bytes;
-      is = ap (λ l. b ∷ l) r.is;
+      is = grind arith;
       each = grind (arith, All-head);
       last = r.last;
       apart = by_front r.front r.is r.last r.apart;
@@ -67,14 +67,14 @@ shorter_end ((c ∷ a) ∷ d ∷ ds) some each shorter =
   where
     by_front : (front : List (List ℕ)) {code : ℕ} {bytes : List ℕ} → d ∷ ds ≡ front ++ (code ∷ bytes) ∷ [] → IsBlock (code ∷ bytes) → (is_full (last_of front) ≡ true → bytes ≢ [])
         → is_full (last_of ((c ∷ a) ∷ front)) ≡ true → bytes ≢ []
-    by_front [] {code} is last apart full none = let one : code ≡ 1 = omega (arith, ap length none) in shorter [] (c ∷ a) full (cc)
+    by_front [] {code} is last apart full none = shorter [] (c ∷ a) full (cc)
     by_front (x ∷ front) is last apart full none = apart full none
 
 -- an encoded frame, given its blocks
 abbrev pub encoded-by : {f m : List ℕ} (blocks : List (List ℕ)) → IsFrameOf f blocks → m ≡ message_of blocks → IsShorter blocks → IsEncodedFrame f m
 encoded-by blocks frame message shorter = record {
-  reads = record { blocks = blocks; frame = frame; message = message };
-  canonical = record { blocks = blocks; frame = frame; shorter = shorter };
+  reads = grind arith;
+  canonical = grind arith;
 }
 
 -- a block before a frame
@@ -116,8 +116,8 @@ module _ (block f : List ℕ) (is : IsBlock block) where
   -- so the other bytes are a frame of their parts
   rest-frame : f ≢ [] → (blocks : List (List ℕ)) → IsFrameOf (block ++ f) blocks → IsFrameOf f (parts f)
   rest-frame some blocks h =
-      let g : IsFrameOf (block ++ f) (block ∷ parts f) = subst (IsFrameOf (block ++ f)) (blocks-are blocks h) h in
-      let whole : f ≡ concat (parts f) = append_cancel_left block f (concat (parts f)) g.whole in
+      let g : IsFrameOf (block ++ f) (block ∷ parts f) = grind (arith, blocks-are) in
+      let whole : f ≡ concat (parts f) = grind (arith, append_cancel_left) in
       record { some = λ e. some (whole ∙ ap concat e); each = All-tail IsBlock block (parts f) g.each; whole = whole }
 
   pub front-frame : f ≢ [] → IsFrame (block ++ f) ↔ IsFrame f

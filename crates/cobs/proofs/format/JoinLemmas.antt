@@ -1,7 +1,6 @@
 -- Frames joined are a frame. A front of a frame that is a frame ends at the end of a block, because the parts of a list
 -- are the blocks of its only frame (`parts-frame`).
-use Rattle.std.proofs.Common.{◌≡◌, ◌≢◌, ℕ, ◌↔◌, List, [], ◌∷◌, ◌++◌, All, refl, ap, ◌∙◌, length, subst, arith, append-nil, length-append, append_assoc}
-use Rattle.std.specs.List.{concat}
+use Rattle.std.proofs.Common.{◌≡◌, ◌≢◌, ℕ, ◌↔◌, List, [], ◌∷◌, ◌++◌, refl, ap, ◌∙◌, length, arith, append-nil, length-append, append_assoc}
 use Rattle.std.proofs.lemmas.List.{nil_from_length}
 use Rattle.std.proofs.lemmas.List.Folds.{concat-append}
 use Rattle.std.proofs.lemmas.List.Elements.{All-append}
@@ -49,7 +48,7 @@ front_frame p q m r some = (
     message_of first,
     record {
       blocks = first;
-      frame = record { some = λ none. some (ends ∙ ap concat none); each = (All-apart IsBlock first rest (subst (All IsBlock) is r.frame.each)).0; whole = ends };
+      frame = grind (arith, All-apart);
       message = refl;
     },
   ),

@@ -40,7 +40,7 @@ onto_parts a (p ∷ ps) = (a ++ p) ∷ ps
 -- nonzero bytes lengthen the first stretch
 pub stretches-front : (bytes m : List ℕ) → HasNoZero bytes → stretches (bytes ++ m) ≡ onto_parts bytes (stretches m)
 stretches-front [] m h = grind (arith, some_stretch)
-stretches-front (b ∷ bs) m h = grind (arith, All-head, All-tail, stretches-front bs m (All-tail (λ b. b ≢ 0) b bs h))
+stretches-front (b ∷ bs) m h = grind (arith, All-head, stretches-front bs m (All-tail (λ b. b ≢ 0) b bs h))
 
 -- 254 bytes before the first part are one full block more, if a part is left
 full_more : (bytes : List ℕ) (parts : List (List ℕ)) → length bytes ≡ 254 → parts ≢ [] → join_with_byte 0 parts ≢ []

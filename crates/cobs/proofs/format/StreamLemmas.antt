@@ -28,7 +28,7 @@ pub stretches-append : (t u : List ℕ) → stretches (t ++ u) ≡ but_last (str
 unfolding but_last
 stretches-append [] u = refl
 stretches-append (zero ∷ t) u = grind (arith, (stretches-append t u), length-stretches t)
-stretches-append (suc b ∷ t) u = grind (arith, length-stretches, (stretches-append t u))
+stretches-append (suc b ∷ t) u = grind (arith, (stretches-append t u))
 
 but_last-append : (xs ys : List (List ℕ)) → 0 < length ys → but_last (xs ++ ys) ≡ xs ++ but_last ys
 unfolding but_last
@@ -111,7 +111,7 @@ pub unended_no_zero : (t : List ℕ) → HasNoZero (unended t)
 unfolding unended
 unended_no_zero [] = All-nil (λ x. x ≢ 0)
 unended_no_zero (zero ∷ t) = grind (arith, unended_no_zero t)
-unended_no_zero (suc b ∷ t) = grind (arith, last_of-onto_first, length-stretches, (unended_no_zero t))
+unended_no_zero (suc b ∷ t) = grind (arith, last_of-onto_first, (unended_no_zero t))
 
 -- ONE MORE BYTE OF A STREAM
 

@@ -3,7 +3,7 @@
 -- frame is counted block by block (`len-blocks`).
 use Rattle.std.proofs.Common.{◌⊎◌, inl, inr, ◌≡◌, ◌≢◌, ℕ, ◌+◌, true, List, [], ◌∷◌, ◌++◌, length, take, All, refl, sym, ap, ◌∙◌, subst, arith, append-nil, append_assoc, length-append, take_at, take_all}
 use Rattle.std.specs.List.{concat}
-use Rattle.std.proofs.lemmas.Bool.{cases_Bool, eqb-false}
+use Rattle.std.proofs.lemmas.Bool.{cases_Bool}
 use Rattle.std.proofs.lemmas.List.{append_cancel_left}
 use Rattle.std.proofs.lemmas.List.Elements.{All-head, All-tail}
 use Rattle.cobs.specs.Grammar.{IsBlock, IsFull, is_full, joint, last_of, lone_block, message_of, bytes_of, IsEncodedFrame, Reads}
@@ -11,7 +11,7 @@ use Rattle.cobs.specs.Length.{encoded_len}
 use Rattle.cobs.specs.Stream.{head}
 use Rattle.cobs.proofs.decoding.OutcomeLemmas.{head-append, head-zero, head_alone}
 use Rattle.cobs.proofs.format.GrammarLemmas.{one_frame, one_message, IsShorter, IsShorter-tail, shorter_end}
-use Rattle.cobs.proofs.format.FrameLemmas.{append-some, concat-push}
+use Rattle.cobs.proofs.format.FrameLemmas.{concat-push}
 use Rattle.cobs.proofs.format.LengthLemmas.{encoded_len-last, encoded_len-zero, encoded_len-full}
 
 -- WHAT BLOCKS STAND FOR
@@ -31,7 +31,7 @@ empty_message (c ∷ bytes) (d ∷ ds) h e = absurd (some_message (c ∷ bytes) 
 -- how long the frame of a block's bytes and more is
 len-block : (block m : List ℕ) → IsBlock block → (is_full block ≡ true → m ≢ []) → encoded_len (bytes_of block ++ joint block ++ m) ≡ length block + encoded_len m
 len-block [] m is some = absurd is
-len-block (code ∷ bytes) m is some = grind (arith, append_assoc, encoded_len-full, eqb-false, encoded_len-zero, cases_Bool)
+len-block (code ∷ bytes) m is some = grind (arith, append_assoc, encoded_len-full, encoded_len-zero)
 
 -- the blocks before the last one are part of the encoded frame, unless the last one is empty and follows a full block
 pub len-blocks : (front : List (List ℕ)) (code : ℕ) (bytes : List ℕ) → All IsBlock front → (is_full (last_of front) ≡ true → bytes ≢ [])
@@ -40,7 +40,7 @@ len-blocks [] code bytes each some = omega arith
 len-blocks (b ∷ []) code bytes each some = grind (arith, append-nil, len-block, All-head)
 len-blocks (b ∷ c ∷ front) code bytes each some =
     let more = All-tail IsBlock b (c ∷ front) each in
-    grind (arith, append-some, len-block, All-head, len-blocks (c ∷ front) code bytes more some, length-append b (concat (c ∷ front)))
+    grind (arith, len-block, All-head, len-blocks (c ∷ front) code bytes more some, length-append b (concat (c ∷ front)))
 
 -- THERE IS ONE ENCODED FRAME
 
@@ -51,7 +51,7 @@ first_bytes c a (d ∷ ds) n h e =
     let is = All-head IsBlock (c ∷ a) (d ∷ ds) h in
     let cut : head (message_of ((c ∷ a) ∷ d ∷ ds)) ≡ a ++ head (joint (c ∷ a) ++ message_of (d ∷ ds))
     = ap head (append_assoc a (joint (c ∷ a)) (message_of (d ∷ ds))) ∙ head-append a _ is.2 in
-    grind (arith, eqb-false, head-zero, append-nil, take_all, take_at)
+    grind (arith, head-zero, append-nil, take_all, take_at)
 
 -- so the first blocks of one message are one
 same_first : (b c : List ℕ) (bs cs : List (List ℕ)) → All IsBlock (b ∷ bs) → All IsBlock (c ∷ cs) → message_of (b ∷ bs) ≡ message_of (c ∷ cs) → b ≡ c

@@ -62,7 +62,7 @@ module _ (c : After-zeros_at-later) where
   -- the second window has no zero either
   module _ (none : c.zeros_at-later.result ≡ 0) where
     windows : HasNoZero (take (at + 32) source)
-    windows = grind (arith, both, zero_mask-none, later)
+    windows = grind (arith, both, zero_mask-none)
 
     wide : 64 ≤ length source → HasNoZero (take 64 source)
     wide long =

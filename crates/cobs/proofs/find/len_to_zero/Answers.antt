@@ -19,9 +19,9 @@ shorter bytes rest after k s within nonzero is =
     let n : ℕ = length bytes - length rest in
     let after-is : after ≡ drop k rest = grind (arith, take_all, length-drop) in
     let sum : n + k ≡ length bytes - length after = omega (arith, ap length after-is, length-drop k rest) in
-    let part : take k (drop n bytes) ≡ take k rest = ap (take k) (sym s.rest) in
+    let part : take k (drop n bytes) ≡ take k rest = grind arith in
     record {
-      within = omega (arith, s.within, ap length after-is, length-drop k rest);
+      within = omega (arith, ap length after-is, length-drop k rest);
       rest = grind (arith, drop-drop);
       before = subst HasNoZero (ap (λ xs. take n bytes ++ xs) (sym part) ∙ sym (take-add n k bytes) ∙ ap (λ i. take i bytes) sum)
           (All-append (λ b. b ≢ 0) (take n bytes) (take k rest) s.before nonzero);

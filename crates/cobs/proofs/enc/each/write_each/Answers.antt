@@ -40,7 +40,7 @@ module _ {old source slice : List ℕ} {pos index next : ℕ} (some : 0 < length
   whole-len = sym (ends r last) ∙ whole-fits old source some
 
   whole-rest : drop next (set slice index (next - index)) ≡ drop next old
-  whole-rest = let ordered = r.ordered in drop-set-lt next slice index (next - index) (omega arith) ∙ (rw (ends r last) at r.rest)
+  whole-rest = drop-set-lt next slice index (next - index) (omega arith) ∙ (rw (ends r last) at r.rest)
 
   whole-frame : IsEncodedFrame (take next (set slice index (next - index))) source
   whole-frame =

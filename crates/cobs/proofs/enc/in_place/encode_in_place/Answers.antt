@@ -1,5 +1,5 @@
 -- The frame so far ends before the bytes that are still to be read (`encoded_len-le`), so each of these is as it was (`there`).
-use Rattle.std.proofs.Common.{◌≡◌, ◌<◌, ◌≤◌, ◌+◌, ◌-◌, ◌++◌, ℕ, List, [], ◌∷◌, drop, take, get_or, refl, sym, ◌∙◌, arith, length, length-drop, length-take}
+use Rattle.std.proofs.Common.{◌≡◌, ◌<◌, ◌≤◌, ◌+◌, ◌-◌, ◌++◌, ℕ, List, [], ◌∷◌, drop, take, get_or, sym, ◌∙◌, arith, length, length-drop, length-take}
 use Rattle.std.proofs.lemmas.List.{get_or-drop, length_push, take_more}
 use Rattle.cobs.specs.Fields.Progress.{reached_by}
 use Rattle.cobs.specs.Length.{max_encoded_len}
@@ -62,10 +62,8 @@ close_block-requires c = after-place c.by_byte.invariant.after
 
 pub returns : goal.returns
 returns c =
-    let all : c.by_byte.taken ≡ c.args.len = omega arith in
     let m : List ℕ = message_in c.args.len c.args.buffer.now in
-    let message : take c.by_byte.taken (drop c.max_encoding_overhead-before.result c.args.buffer.now) ≡ m = rw (all, c.max_encoding_overhead-before.ensures.overhead) refl in
-    let after : CobsEncoderAfter c.by_byte.buffer (reached_by c.by_byte.encoder) m = rw (← message) c.by_byte.invariant.after in
+    let after : CobsEncoderAfter c.by_byte.buffer (reached_by c.by_byte.encoder) m = grind arith in
     let frame = c.close_block.ensures.frame m after in
     record {
       frame = frame;

@@ -25,7 +25,7 @@ by_byte-preserved c =
       | then-taken-eq-FULL_BLOCK_BYTES+else-left-eq0 w ↦
           let full = len-full c.args.bytes.now c.by_byte.i next (c.by_byte.taken + 1) (omega arith) in
           rw (w.left-is, w.taken-is) (omega arith, omega arith, omega arith)
-      | else-taken-eq-FULL_BLOCK_BYTES w ↦ let other = w.if-taken-eq-FULL_BLOCK_BYTES.false in rw (w.left-is, w.taken-is) (omega arith, more, total)
+      | else-taken-eq-FULL_BLOCK_BYTES w ↦ rw (w.left-is, w.taken-is) (omega arith, more, total)
     ] in
     let more' = ready.1 in
     elim c.if-bytes-i-ne0.branch [

@@ -28,7 +28,7 @@ returns-in-Some-clause-first g c = λ p h.
     let t = c.in-Some.ensures.takes in
     record {
       outcome = outcome_at c.in-Some.end (g.D.FrameDecoder.bytes c.feed_piece.new.self);
-      is = c.next_at.ensures (g.D.FrameDecoder.bytes c.feed_piece.new.self) (rw t.takes.len (t.bound p h.phased));
+      is = grind arith;
       first = EndsFirstIn-taken _ t p h;
       decoded = HasDecoded-taken _ t p h;
     }
@@ -46,7 +46,7 @@ invariant_of-self-clause-has_taken g c = ∥∥₁_map c.args.self.now.has_taken
   _,
   record {
     after = c.in-None.ensures.takes.takes.after w.0 w.1.after;
-    flag = c.is_unfinished-self.ensures.unfinished w.0 w.1.flag w.1.after.phased.piece;
+    flag = grind arith;
   },
 ))
 

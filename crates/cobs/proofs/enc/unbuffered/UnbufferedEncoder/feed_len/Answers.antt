@@ -34,7 +34,7 @@ returns c =
     let t = taken after in
     let fits = (room after).fits in
     record {
-      room = (λ t. room after, λ h. refl);
+      room = grind arith;
       fits = λ m h. (let end = after-end h (c.args.byte ∷ []) in (λ t. omega arith, λ le. refl));
       taken = all-after t;
       rest = all-rest t;
