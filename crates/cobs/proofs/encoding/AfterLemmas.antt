@@ -46,7 +46,7 @@ to_after {slice} {m} {index} {next} {full} code is short fits o =
     by_end false fits =
         let long : length (concat o.front ++ code ∷ o.bytes) ≡ next = grind (arith, length-append) in
         (omega arith, rw long (open_slice o code is fits))
-    by_end true fits = (grind (arith, append-nil), grind (arith, append-nil, set_past))
+    by_end true fits = grind (arith, append-nil, set_past)
 
 module _ {slice m : List ℕ} {r : Reached} (h : CobsEncoderAfter slice r m) where
   abbrev o : IsOpenFrame h.follows.0 m r.block.index r.block.code
@@ -75,7 +75,7 @@ module _ {slice m : List ℕ} {r : Reached} (h : CobsEncoderAfter slice r m) whe
       let is : h.frame ≡ h.follows.0 = whole-is open' ∙ sym (f-is o) in
       let out : IsOpenOutput (take (length h.follows.0) slice) r.block m = grind arith in
       let long : length h.follows.0 ≡ next_of r = ap length (f-is o) ∙ length-append (concat o.front) (r.block.code ∷ o.bytes) ∙ omega (arith, parts.1.0) in
-      Opened-same (rw long at (output-opened out)) slice (sym (take-take (next_of r) (next_of r) slice (omega arith)))
+      Opened-same (rw long at (output-opened out)) slice (grind (arith, take-take))
 
   -- the converse of `to_after`
   pub from_after : Opened slice m r.block.index (next_of r) r.full

@@ -45,8 +45,8 @@ copied-by {s} {slice} {after} {read} {len} {index} {next} before inside fits is 
 copied-joins : {s : Start} {slice : List ℕ} {read len index next : ℕ} → Copied s slice read len index next → (k : ℕ) → 0 < k → k ≤ len → next + k ≤ index + 255
     → HasNoZero (take k (drop read s.source)) → Reaches s slice (read + k) index (next + k) IsNotFull
 copied-joins {s} {slice} {read} {len} {index} {next} c k some le short nonzero =
-    let here = sym (take-take k len (drop next slice) le) ∙ ap (take k) c.here ∙ take-take k len (drop read s.source) le in
-    Reaches-join c.reaches c.room k (omega arith) short nonzero here (λ full z p. absurd (omega arith)) (λ z. refl)
+    let here = sym (grind (arith, take-take)) ∙ ap (take k) c.here ∙ take-take k len (drop read s.source) le in
+    Reaches-join c.reaches c.room k (omega arith) short nonzero here (grind arith) (λ z. refl)
 
 -- the copied bytes are a window, whose bits say which of them are zeros
 pub record CopiedWindow (s : Start) (slice : List ℕ) (read len index next zeros : ℕ) : Type 0 where
@@ -98,7 +98,7 @@ module _ {s : Start} {slice : List ℕ} {read len index next zeros d : ℕ} (m :
   masked-end none =
       let all = lowest-none zeros none in
       let nonzero = mask_behind-none d left (sym m.bits ∙ none) in
-      let joined = Reaches-join m.reaches {Q = IsNotFull} m.room (len - d) (omega arith) (omega arith) nonzero m.here (λ full z p. p (omega arith)) (λ z. refl) in
+      let joined = Reaches-join m.reaches {Q = IsNotFull} m.room (len - d) (omega arith) (omega arith) nonzero m.here (grind arith) (λ z. refl) in
       grind arith
 
   -- another byte is in the place of the open block's code
@@ -128,17 +128,17 @@ module _ {s : Start} {slice : List ℕ} {read len index next zeros d : ℕ} (m :
         let sum : len - d ≡ j + 1 + (len - (k + 1)) = omega arith in
         let cut : (xs : List ℕ) (a : ℕ) → drop (j + 1) (take (len - d) (drop (a + d) xs)) ≡ take (len - (k + 1)) (drop (a + (k + 1)) xs) =
         λ xs a. ap (λ m. drop (j + 1) (take m (drop (a + d) xs))) sum ∙ drop-take (j + 1) (len - (k + 1)) (drop (a + d) xs)
-        ∙ ap (take (len - (k + 1))) (drop-drop (j + 1) (a + d) xs ∙ ap (λ m. drop m xs) (omega arith)) in
+        ∙ ap (take (len - (k + 1))) (grind (arith, drop-drop)) in
         let front = take-take j (len - d) (drop (read + d) s.source) (omega arith) in
         let there = mask_behind-some d left some_bits in
         let nonzero = subst HasNoZero front (nonzero_len-before left there) in
         let here = sym (take-take j (len - d) (drop (next + d) slice) (omega arith)) ∙ ap (take j) m.here ∙ front in
         let zero_at : get_or s.source (read + d + j) 0 ≡ 0 =
-        sym (get_or-drop (read + d) s.source j 0) ∙ sym (get_or-take (len - d) (drop (read + d) s.source) j 0 lt) ∙ nonzero_len-at left there in
+        sym (get_or-drop (read + d) s.source j 0) ∙ sym (grind (arith, get_or-take)) ∙ nonzero_len-at left there in
         let joined = Reaches-join m.reaches {Q = λ _. Unit {0}} m.room j (omega arith) (omega arith) nonzero here (λ full z p. tt) (λ z. tt) in
         let closed = Reaches-zero joined {Q = λ full. 0 < k + 1 → full ≡ false} m.room (omega arith) zero_at (omega arith) (λ lt. refl) in
         let long = length-set slice index (next + k - index) in
-        grind (arith, drop-set-lt, ap without_lowest m.bits ∙ mask_behind-and d left small some_bits)
+        grind (arith, drop-set-lt, mask_behind-and, small, some_bits)
 
   -- the place of the next code is no later than the next zero
   pub masked-ordered : index ≤ next + lowest zeros
@@ -203,7 +203,7 @@ row-taken {s} {slice} {after} {read} {index} {next} {P} r short fits n some insi
     let first = Reaches-same-empty closed after refl front back in
     let row = ap (λ l. take n (drop next l)) is ∙ mid-three coded (replicate n 1) next n ones (omega arith) in
     let taken = Reaches-ones m first (omega arith) long zero.1 (grind arith) in
-    record { ordered = omega arith; open' = omega arith; room = long; reaches = grind (arith, Reaches-at) }
+    record { ordered = omega arith; open' = omega arith; room = long; reaches = grind arith }
 
 -- the first k bytes, which aren't zeros and are copied as one slice, join the open block
 pub slice-joined : {s : Start} {slice part : List ℕ} {index next k n m : ℕ} {P : Bool → Type 0} → Reaches s slice 0 index next P

@@ -1,6 +1,6 @@
 -- Lemmas on the blocks of an open frame. Its message by `message_of-close` and `message_of-more`, and the encoded frame
 -- of this message: the open frame itself, or the blocks before a last block without bytes (`encoded-of`).
-use Rattle.std.proofs.Common.{◌≡◌, ◌≢◌, ℕ, ◌+◌, Bool, true, false, if◌then◌else◌, List, [], ◌∷◌, ◌++◌, length, All, refl, sym, ap, ◌∙◌, arith, append-nil, append_assoc}
+use Rattle.std.proofs.Common.{◌≡◌, ◌≢◌, ℕ, ◌+◌, Bool, true, false, if◌then◌else◌, List, [], ◌∷◌, ◌++◌, length, All, refl, ap, ◌∙◌, arith, append-nil, append_assoc}
 use Rattle.std.specs.List.{concat}
 use Rattle.std.proofs.lemmas.Bool.{ne_eqb}
 use Rattle.std.proofs.lemmas.List.{same_from_push}
@@ -19,7 +19,7 @@ message_of-close front some = grind (arith, message_of-append, append-nil)
 pub message_of-more : (bs : List (List ℕ)) (c d : ℕ) (bytes more : List ℕ) → message_of (bs ++ (c ∷ bytes ++ more) ∷ []) ≡ message_of (bs ++ (d ∷ bytes) ∷ []) ++ more
 message_of-more [] c d bytes more = refl
 message_of-more (x ∷ []) c d bytes more = grind (arith, append_assoc)
-message_of-more (x ∷ y ∷ bs) c d bytes more = grind (arith, append_assoc, (message_of-more (y ∷ bs) c d bytes more))
+message_of-more (x ∷ y ∷ bs) c d bytes more = grind (arith, append_assoc, message_of-more (y ∷ bs) c d bytes more)
 
 -- a fact about all blocks holds for those before the last one, and for the last one
 pub All-front : (bs : List (List ℕ)) (b : List ℕ) → All IsBlock (bs ++ b ∷ []) → All IsBlock bs × IsBlock b
@@ -57,12 +57,12 @@ module _ {m f : List ℕ} {index code : ℕ} (o : IsOpenFrame f m index code) wh
   closed_frame-is_frame true noted = grind (arith, append-nil, blocks-of)
 
   pub closed_blocks-full : (full : Bool) → ends_in_full o.front o.bytes ≡ full → is_full (last_of (closed_blocks full)) ≡ full
-  closed_blocks-full false noted = ap is_full (last_of-push o.front (code ∷ o.bytes)) ∙ ne_eqb code 255 (λ e. omega arith)
-  closed_blocks-full true noted = (no_bytes o.front o.bytes noted).1
+  closed_blocks-full false noted = grind (arith, last_of-push, ne_eqb)
+  closed_blocks-full true noted = grind (arith, no_bytes)
 
   closed_blocks-shorter : (full : Bool) → ends_in_full o.front o.bytes ≡ full → IsShorter (closed_blocks full)
   closed_blocks-shorter false noted fr c full e =
-      let same = same_from_push o.front (fr ++ c ∷ []) (code ∷ o.bytes) lone_block (e ∙ sym (append_assoc fr (c ∷ []) (lone_block ∷ []))) in
+      let same = same_from_push o.front (fr ++ c ∷ []) (code ∷ o.bytes) lone_block (grind (arith, append_assoc)) in
       grind (arith, last_of-push)
   closed_blocks-shorter true noted fr c full e =
       grind (arith, append_assoc, last_of-push (fr ++ c ∷ []) lone_block)

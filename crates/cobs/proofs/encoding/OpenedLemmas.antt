@@ -30,7 +30,7 @@ module _ {slice m : List ℕ} {index next : ℕ} {full : Bool} (o : Opened slice
   pub Opened-same : (slice' : List ℕ) → take next slice' ≡ take next slice → Opened slice' m index next full
   Opened-same slice' same =
       let le : index ≤ next = omega arith in
-      Opened-in slice' (sym (take-take index next slice' le) ∙ ap (take index) same ∙ take-take index next slice le) (ap (drop (index + 1)) same)
+      Opened-in slice' (sym (take-take index next slice' le) ∙ ap (take index) same ∙ take-take index next slice le) (grind arith)
 
   -- if the open block has no bytes, the byte in its code's place doesn't matter either
   pub Opened-same-empty : (slice' : List ℕ) → next ≡ index + 1 → take index slice' ≡ take index slice → Opened slice' m index next full
@@ -72,7 +72,7 @@ module _ {slice m : List ℕ} {index next : ℕ} {full : Bool} (o : Opened slice
       let long : length (take next slice) ≡ next = length-take-le next slice fits in
       let wrote : take next (set slice index code) ≡ concat o.front ++ block =
       take-set-lt next slice index code (omega arith) ∙ set_split (take next slice) index code (omega arith)
-      ∙ (rw (take-take index next slice (omega arith), o.written, one, o.bytes_there) refl) in
+      ∙ grind (arith, take-take) in
       record {
         front = front';
         bytes = [];
@@ -82,7 +82,7 @@ module _ {slice m : List ℕ} {index next : ℕ} {full : Bool} (o : Opened slice
         message = grind (arith, message_of-close, last_of-push);
         begins = grind (arith, concat-push, length-append);
         place = refl;
-        written = wrote ∙ sym (concat-push o.front block);
+        written = grind (arith, concat-push);
         bytes_there = grind (arith, drop_all, length-take);
         noted = grind (arith, last_of-push);
       }
@@ -94,19 +94,7 @@ pub opened-of : {f m slice : List ℕ} {index code next : ℕ} (o : IsOpenFrame 
     → drop (index + 1) (take next slice) ≡ o.bytes → Opened slice m index next (ends_in_full o.front o.bytes)
 opened-of o is front behind =
     let each = blocks-of o in
-    record {
-      front = o.front;
-      bytes = o.bytes;
-      each = each.0;
-      nonzero = each.1.2;
-      few = omega arith;
-      message = grind arith;
-      begins = o.begins;
-      place = omega arith;
-      written = front;
-      bytes_there = behind;
-      noted = refl;
-    }
+    grind arith
 
 module _ {g m : List ℕ} {state : OpenBlock} (o : IsOpenOutput g state m) where
   abbrev front : List ℕ
@@ -132,8 +120,8 @@ module _ {g m : List ℕ} {state : OpenBlock} (o : IsOpenOutput g state m) where
       let one : length (front ++ o.2.0 ∷ []) ≡ state.index + 1 = grind (arith, length_push) in
       let all = take_all next g (omega (arith, length-IsOpenOutput)) in
       opened-of o.1 refl
-      (ap (take state.index) output-is ∙ take_at front (o.2.0 ∷ o.1.bytes) state.index begins)
-      (ap (drop (state.index + 1)) (all ∙ output-is ∙ sym (append_assoc front (o.2.0 ∷ []) o.1.bytes)) ∙ drop_at (front ++ o.2.0 ∷ []) o.1.bytes (state.index + 1) one)
+      (grind (arith, output-is, take_at, begins))
+      (ap (drop (state.index + 1)) (grind (arith, output-is, append_assoc)) ∙ drop_at (front ++ o.2.0 ∷ []) o.1.bytes (state.index + 1) one)
 
 -- TO AN OPEN FRAME
 
@@ -166,7 +154,7 @@ module _ {slice m : List ℕ} {index next : ℕ} {full : Bool} (o : Opened slice
       let front = take-take index next slice (omega arith) in
       let rest = drop_more (take next slice) index 0 (omega arith) in
       let begins : take next slice ≡ concat o.front ++ x ∷ o.bytes = cc o.written in
-      (x, begins ∙ sym (set_at (concat o.front) code o.bytes x index (sym begins')))
+      (x, begins ∙ sym (grind (arith, set_at)))
 
   opened-output : code < 255 → length slice ≡ next → IsOpenOutput slice (record { index = index; code = code }) m
   opened-output short long =
@@ -198,7 +186,7 @@ module _ {g m : List ℕ} {state : OpenBlock} (o : IsOpenOutput g state m) where
         let long = length-IsOpenOutput o in
         let longer = length_push g byte in
         let same = Opened-same (output-opened o) (g ++ byte ∷ []) (take-append-le _ _ _ (omega arith)) in
-        Opened-join same (byte ∷ []) (λ e. cc) (one-nonzero byte nonzero) (omega arith) (omega arith) (ap (take 1) (drop_at g (byte ∷ []) _ long))
+        grind (arith, Opened-join, one-nonzero, drop_at)
 
     -- a nonzero byte joins the block
     pub open-more : state.code ≢ 254 → IsOpenOutput (g ++ byte ∷ []) (record { index = state.index; code = state.code + 1 }) (m ++ byte ∷ [])
@@ -217,4 +205,4 @@ module _ {g m : List ℕ} {state : OpenBlock} (o : IsOpenOutput g state m) where
         let long_push = length_push (set g state.index 255) byte in
         ap (take _) (sym (append_assoc (set g state.index 255) (byte ∷ []) (x ∷ []))) ∙ take-append-le _ _ _ (omega arith) ∙ ap (take _) (sym coded)
         ) in
-        rw (sum, append-nil) at (opened-output out 1 refl (omega arith) (length-append (set g state.index 255) (byte ∷ x ∷ []) ∙ omega (arith, length-set g state.index 255)))
+        rw (sum, append-nil) at (opened-output out 1 refl (omega arith) (grind (arith, length-append, length-set)))

@@ -93,7 +93,7 @@ last_runs = refl
 one_frame_between : (f : List ℕ) → Reads f (10 ∷ 11 ∷ 0 ∷ 12 ∷ []) → f ≡ 3 ∷ 10 ∷ 11 ∷ 2 ∷ 12 ∷ []
 one_frame_between f r = ⊎_elim
     (λ e. one_encoded f (3 ∷ 10 ∷ 11 ∷ 2 ∷ 12 ∷ []) (10 ∷ 11 ∷ 0 ∷ 12 ∷ []) e frame_between)
-    (λ w. absurd (omega arith))
+    (grind arith)
     ((all_frames f (10 ∷ 11 ∷ 0 ∷ 12 ∷ [])).0 r)
 
 -- ANOTHER SENTINEL

@@ -146,8 +146,8 @@ reads_output f some nonzero below whole = grind (arith, parts-some, blocks_of_wh
 -- a property of all elements of two lists end to end holds for each of the two lists
 pub All-apart : {X : Type 0} (P : X → Type 0) (xs ys : List X) → All P (xs ++ ys) → All P xs × All P ys
 All-apart P xs ys h = (
-  subst (All P) (take_at xs ys (length xs) refl) (All-take P (length xs) (xs ++ ys) h),
-  subst (All P) (drop_at xs ys (length xs) refl) (All-drop P (length xs) (xs ++ ys) h),
+  subst (All P) (grind (arith, take_at)) (All-take P (length xs) (xs ++ ys) h),
+  subst (All P) (grind (arith, drop_at)) (All-drop P (length xs) (xs ++ ys) h),
 )
 
 -- the code of a block is below 256, so if its bytes are, the whole block is
@@ -160,7 +160,7 @@ blocks_bytes (block ∷ []) h below = grind (arith, append-nil, block_bytes, All
 blocks_bytes (block ∷ next ∷ blocks) h below =
     let apart = All-apart (λ b. b < 256) (bytes_of block ++ joint block) (message_of (next ∷ blocks)) below in
     All-append (λ b. b < 256) block (concat (next ∷ blocks))
-    (block_bytes block (All-head IsBlock block (next ∷ blocks) h) (All-apart (λ b. b < 256) (bytes_of block) (joint block) apart.0).0)
+    (block_bytes block (grind (arith, All-head)) (All-apart (λ b. b < 256) (bytes_of block) (joint block) apart.0).0)
     (blocks_bytes (next ∷ blocks) (All-tail IsBlock block (next ∷ blocks) h) apart.1)
 
 pub frame_bytes : (f m : List ℕ) → Reads f m → All (λ b. b < 256) m → All (λ b. b < 256) f

@@ -132,7 +132,7 @@ module _ (block f : List ℕ) (is : IsBlock block) where
       record {
         blocks = parts f;
         frame = rest-frame some c.blocks c.frame;
-        shorter = IsShorter-tail block (parts f) (subst IsShorter (blocks-are c.blocks c.frame) c.shorter);
+        shorter = IsShorter-tail block (parts f) (grind (arith, blocks-are));
       },
       λ full lone. c.shorter [] block full (cc (blocks-are c.blocks c.frame, lone-parts)),
     ),

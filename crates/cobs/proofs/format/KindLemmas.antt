@@ -25,7 +25,7 @@ pub says : (f : List ℕ) (kind : FrameKind) → IsKindOf kind f → record {
   canonical : (kind ≡ Canonical) ↔ IsCanonical f;
   longer : (kind ≡ Longer) ↔ (IsFrame f × ¬ IsCanonical f);
 }
-says f kind h = record { not_a_frame = grind (arith, frame_of); canonical = grind (arith, frame_of); longer = grind arith }
+says f kind h = grind (arith, frame_of)
 
 -- BLOCK BY BLOCK
 

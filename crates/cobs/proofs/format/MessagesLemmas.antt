@@ -68,7 +68,7 @@ outcomes_of_frames (f ∷ frames) (m ∷ messages) n h fits =
     let rest = outcomes_of_frames frames messages n h.1 (All-tail (λ m. length m ≤ n) m messages fits) in
     let more = flat_map (λ f. f ++ 0 ∷ []) frames in
     let first = stream_outcomes-front f more n (frame_some f m r) (frame_nonzero f m r) in
-    cc (append_assoc f (0 ∷ []) more, outcome_frame f m n r (All-head (λ m. length m ≤ n) m messages fits))
+    cc (append_assoc f (0 ∷ []) more, outcome_frame f m n r (grind (arith, All-head)))
 
 -- the frames of messages that a buffer holds come out as exactly these messages
 pub AreFrames-outcomes : (messages : List (List ℕ)) (bytes : List ℕ) (n : ℕ) → AreFrames messages bytes → All (λ m. length m ≤ n) messages → stream_outcomes bytes n ≡ map Message messages

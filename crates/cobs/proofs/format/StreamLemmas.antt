@@ -27,13 +27,13 @@ length-stretches t = grind (arith, length-slice_split)
 pub stretches-append : (t u : List ℕ) → stretches (t ++ u) ≡ but_last (stretches t) ++ stretches (last_of (stretches t) ++ u)
 unfolding but_last
 stretches-append [] u = refl
-stretches-append (zero ∷ t) u = grind (arith, (stretches-append t u), length-stretches t)
-stretches-append (suc b ∷ t) u = grind (arith, (stretches-append t u))
+stretches-append (zero ∷ t) u = grind (arith, stretches-append t u, length-stretches t)
+stretches-append (suc b ∷ t) u = grind (arith, stretches-append t u)
 
 but_last-append : (xs ys : List (List ℕ)) → 0 < length ys → but_last (xs ++ ys) ≡ xs ++ but_last ys
 unfolding but_last
 but_last-append [] ys h = refl
-but_last-append (x ∷ xs) ys h = grind (arith, (but_last-append xs ys h), length-append xs ys)
+but_last-append (x ∷ xs) ys h = grind (arith, but_last-append xs ys h, length-append xs ys)
 
 -- the pieces of a stream in two parts
 pub ended_pieces-append : (t u : List ℕ) → ended_pieces (t ++ u) ≡ ended_pieces t ++ ended_pieces (unended t ++ u)
@@ -111,7 +111,7 @@ pub unended_no_zero : (t : List ℕ) → HasNoZero (unended t)
 unfolding unended
 unended_no_zero [] = All-nil (λ x. x ≢ 0)
 unended_no_zero (zero ∷ t) = grind (arith, unended_no_zero t)
-unended_no_zero (suc b ∷ t) = grind (arith, last_of-onto_first, (unended_no_zero t))
+unended_no_zero (suc b ∷ t) = grind (arith, last_of-onto_first, unended_no_zero t)
 
 -- ONE MORE BYTE OF A STREAM
 
@@ -139,16 +139,16 @@ nonempty-unended_push t b = grind (arith, unended-push, nonempty-push)
 pub nonempty-unended_last : (p bytes : List ℕ) → 0 < length bytes → not (eqb (get_or bytes (length bytes - 1) 0) 0) ≡ is_nonempty (unended (p ++ bytes))
 nonempty-unended_last p bytes h =
     let same : bytes ≡ take (length bytes - 1) bytes ++ get_or bytes (length bytes - 1) 0 ∷ []
-    = sym (take_all (length bytes - 1 + 1) bytes (omega arith)) ∙ take_more bytes (length bytes - 1) 0 (omega arith) in
+    = sym (grind (arith, take_all)) ∙ take_more bytes (length bytes - 1) 0 (omega arith) in
     nonempty-unended_push (p ++ take (length bytes - 1) bytes) (get_or bytes (length bytes - 1) 0)
-    ∙ ap (λ x. is_nonempty (unended x)) (append_assoc p (take (length bytes - 1) bytes) _ ∙ ap (λ x. p ++ x) (sym same))
+    ∙ ap (λ x. is_nonempty (unended x)) (grind (arith, append_assoc))
 
 -- DAMAGE BETWEEN TWO SENTINELS
 
 -- nothing is unended at a sentinel
 unended-at_sentinel : (t : List ℕ) → IsAtSentinel t → unended t ≡ []
-unended-at_sentinel t (inl none) = ap unended none ∙ unended-no_zero [] (All-nil (λ x. x ≢ 0))
-unended-at_sentinel t (inr (front, ends)) = ap unended ends ∙ unended-zero front
+unended-at_sentinel t (inl none) = grind (arith, unended-no_zero, All-nil)
+unended-at_sentinel t (inr (front, ends)) = grind (arith, unended-zero)
 
 -- the bytes before a sentinel, up to the next one, and after that one have their own outcomes
 pub stream_outcomes-apart : (a d z : List ℕ) (n : ℕ) → IsAtSentinel a → stream_outcomes (a ++ d ++ 0 ∷ z) n ≡ stream_outcomes a n ++ stream_outcomes (d ++ 0 ∷ []) n ++ stream_outcomes z n

@@ -8,7 +8,7 @@ use Rattle.cobs.proofs.enc.encode_long.Goals as goal
 pub returns-then-is_empty-clause-frame : goal.returns-then-is_empty-clause-frame
 returns-then-is_empty-clause-frame c =
     let none : c.args.source.now ≡ [] = grind (arith, common_steps) in
-    rw none (c.close.ensures.frame [] (start-taken c.args.dest.now _ c.new.ensures.start (omega arith)))
+    grind (arith, start-taken)
 
 pub returns : goal.returns
 returns c = record {

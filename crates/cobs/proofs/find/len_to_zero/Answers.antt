@@ -1,6 +1,6 @@
 -- The bytes that were passed have no zero (`Searched`). Each iteration passes four bytes, or one byte, that aren't
 -- zeros (`next`, `shorter`).
-use Rattle.std.proofs.Common.{◌≡◌, ◌≢◌, ◌∙◌, ◌+◌, ◌-◌, ◌<◌, ◌≤◌, ◌++◌, ℕ, List, length, take, drop, get_or, ap, sym, subst, arith, length-drop, refl, take_all}
+use Rattle.std.proofs.Common.{◌≡◌, ◌≢◌, ◌+◌, ◌-◌, ◌<◌, ◌≤◌, ℕ, List, length, take, drop, get_or, ap, arith, length-drop, refl, take_all}
 use Rattle.std.proofs.lemmas.List.{drop-drop}
 use Rattle.std.proofs.lemmas.List.Elements.{All-append, All-nil}
 use Rattle.std.proofs.Math.Seq.{take-add}
@@ -20,12 +20,7 @@ shorter bytes rest after k s within nonzero is =
     let after-is : after ≡ drop k rest = grind (arith, take_all, length-drop) in
     let sum : n + k ≡ length bytes - length after = omega (arith, ap length after-is, length-drop k rest) in
     let part : take k (drop n bytes) ≡ take k rest = grind arith in
-    record {
-      within = omega (arith, ap length after-is, length-drop k rest);
-      rest = grind (arith, drop-drop);
-      before = subst HasNoZero (ap (λ xs. take n bytes ++ xs) (sym part) ∙ sym (take-add n k bytes) ∙ ap (λ i. take i bytes) sum)
-          (All-append (λ b. b ≢ 0) (take n bytes) (take k rest) s.before nonzero);
-    }
+    grind (arith, common_steps, length-drop, drop-drop, take-add, All-append)
 
 pub by_four-preserved : goal.by_four-preserved
 by_four-preserved c =

@@ -6,8 +6,8 @@ use Rattle.cobs.specs.Grammar.{IsEncodedFrame}
 use Rattle.cobs.specs.Length.{encoded_len}
 use Rattle.cobs.proofs.format.MessagesLemmas.{AreFrames-push, messages_in-more, room-step, written, room-some}
 use Rattle.cobs.proofs.format.LengthLemmas.{encoded_len-le}
-use Rattle.cobs.proofs.stream.write_frames.Goals as goal
 use Rattle.cobs.proofs.stream.write_frames.Goals.{After-deref, After-encode-len}
+use Rattle.cobs.proofs.stream.write_frames.Goals as goal
 
 -- there is room for the message's frame and a zero
 room : (c : After-deref) → c.by_message.end + (encoded_len c.deref.result.now + 1) ≤ length c.by_message.dest

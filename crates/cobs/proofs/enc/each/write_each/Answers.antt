@@ -6,7 +6,7 @@ use Rattle.cobs.specs.Internal.Reaches.{Reaches, HadTaken, Start, start_with, wh
 use Rattle.cobs.proofs.encoding.ReachLemmas.{IsNotFull, Reaches-at, Reaches-full, Reaches-weaker, Reaches-zero, ends}
 use Rattle.cobs.proofs.encoding.TakingLemmas.{joined, front-filled, front-open, start-after}
 use Rattle.cobs.proofs.format.SentinelLemmas.{encoded_nonzero}
-use Rattle.cobs.proofs.enc.each.write_each.Goals.{After-min-len, then-next-index-eq-FULL_CODE, else-next-index-eq-FULL_CODE, then-byte-eq0, else-byte-eq0}
+use Rattle.cobs.proofs.enc.each.write_each.Goals.{After-min-len}
 use Rattle.cobs.proofs.enc.each.write_each.Goals as goal
 use Rattle.std.proofs.Math.ListN.{set}
 use Rattle.std.proofs.lemmas.Bool.{cases_lt}
@@ -65,9 +65,9 @@ opened c =
     let r = c.by_part.invariant in
     let fits = whole-fits c.args.dest.now c.args.source.now (omega arith) in
     elim c.if-next-index-eq-FULL_CODE.branch [
-      | then-next-index-eq-FULL_CODE w ↦ rw (w.dest-is, w.index-is, w.next-is)
-          (omega arith, Reaches-full r (omega arith) (omega arith) (omega arith) (λ none. absurd (omega arith)))
-      | else-next-index-eq-FULL_CODE w ↦ rw (w.dest-is, w.index-is, w.next-is) (omega arith, Reaches-weaker r (λ full p none. p))
+      | goal.then-next-index-eq-FULL_CODE w ↦ rw (w.dest-is, w.index-is, w.next-is)
+          (omega arith, Reaches-full r (omega arith) (omega arith) (omega arith) (grind arith))
+      | goal.else-next-index-eq-FULL_CODE w ↦ grind (arith, Reaches-weaker)
     ]
 
 pub by_byte-init : goal.by_byte-init
@@ -84,11 +84,11 @@ by_byte-preserved c =
     let i = c.by_byte.invariant in
     let open' = i.open' in
     elim c.if-byte-eq0.branch [
-      | then-byte-eq0 w ↦ rw (w.dest-is, w.index-is) (record {
+      | goal.then-byte-eq0 w ↦ rw (w.dest-is, w.index-is) (record {
         open' = omega arith;
-        reaches = Reaches-at refl (omega arith) refl refl (λ full p lt. p) (Reaches-zero i.reaches {Q = IsNotFull} (omega arith) (omega arith) (is ∙ w.if-byte-eq0.true) (omega arith) refl);
+        reaches = Reaches-at refl (omega arith) refl refl (λ full p lt. p) (Reaches-zero i.reaches {Q = IsNotFull} (omega arith) (omega arith) (grind arith) (omega arith) refl);
       })
-      | else-byte-eq0 w ↦ rw (w.dest-is, w.index-is) (record {
+      | goal.else-byte-eq0 w ↦ rw (w.dest-is, w.index-is) (record {
         open' = omega arith;
         reaches = Reaches-at refl (omega arith) refl refl (λ full p lt. p) (joined byte (omega arith) i.reaches is w.if-byte-eq0.false (omega arith) (omega arith));
       })

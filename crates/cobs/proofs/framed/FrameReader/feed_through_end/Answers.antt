@@ -36,7 +36,7 @@ returns-in-Some-clause-first g c = λ p h.
 pub returns-in-Some-clause-bound : goal.returns-in-Some-clause-bound
 returns-in-Some-clause-bound g c =
     let t = c.in-Some.ensures.takes in
-    next_within c.next_at.result _ c.args.self.now.has_taken (λ w. (outcome_at c.in-Some.end (g.D.FrameDecoder.bytes c.feed_piece.new.self), c.next_at.ensures _ (rw t.takes.len (t.bound w.0 w.1.after.phased))))
+    next_within c.next_at.result _ c.args.self.now.has_taken (grind arith)
 
 pub returns-in-Some-clause-idle : goal.returns-in-Some-clause-idle
 returns-in-Some-clause-idle g c = DecoderAfter-idle _ _ c.in-Some.ensures.takes.idle

@@ -12,7 +12,7 @@ returns-then-self-clause-after c = λ m o.
     let r = returns-then-self-clause-carried c m (set o.0 c.args.self.now.index 0) 0 (o.0, o.1, (0, refl)) in (r.0, r.1)
 
 pub returns-then-byte-ne0-clause-carried : goal.returns-then-byte-ne0-clause-carried
-returns-then-byte-ne0-clause-carried c = λ m g x o. let o' = rw (← c.self.view_is) at o in open-more o' c.args.byte c.if-byte-ne0.true (λ is. c.if-self.false (omega arith))
+returns-then-byte-ne0-clause-carried c = λ m g x o. let o' = rw (← c.self.view_is) at o in open-more o' c.args.byte c.if-byte-ne0.true (grind arith)
 
 pub returns-then-byte-ne0-clause-after : goal.returns-then-byte-ne0-clause-after
 returns-then-byte-ne0-clause-after c = λ m o.

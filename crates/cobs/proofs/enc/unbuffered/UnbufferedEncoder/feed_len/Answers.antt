@@ -6,7 +6,7 @@ use Rattle.cobs.specs.Internal.Taking.{TakesFront}
 use Rattle.cobs.proofs.encoding.ByteLemmas.{has-room, room-only}
 use Rattle.cobs.proofs.encoding.TakingLemmas.{all-after, all-rest}
 use Rattle.cobs.proofs.encoding.AfterLemmas.{after-end, after-place}
-use Rattle.cobs.proofs.enc.unbuffered.UnbufferedEncoder.feed_len.Goals.{Joined-then-code-gt-FULL_BLOCK_BYTES, After-append_byte, then-code-gt-FULL_BLOCK_BYTES-via-then-code-gt-FULL_BLOCK_BYTES}
+use Rattle.cobs.proofs.enc.unbuffered.UnbufferedEncoder.feed_len.Goals.{Joined-then-code-gt-FULL_BLOCK_BYTES, After-append_byte}
 use Rattle.cobs.proofs.enc.unbuffered.UnbufferedEncoder.feed_len.Goals as goal
 
 -- after one of the tests failed there is no room

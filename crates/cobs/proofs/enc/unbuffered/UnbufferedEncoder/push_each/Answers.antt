@@ -6,7 +6,6 @@ use Rattle.std.proofs.lemmas.Grind.{common_steps}
 use Rattle.cobs.proofs.encoding.ByteLemmas.{end-with, place-short}
 use Rattle.cobs.proofs.encoding.AfterLemmas.{after-end, after-fits, after-place}
 use Rattle.cobs.proofs.enc.unbuffered.UnbufferedEncoder.push_each.Goals as goal
-use Rattle.cobs.proofs.enc.unbuffered.UnbufferedEncoder.push_each.Goals.{then-self-gt253-via-then-self-gt253}
 
 pub returns-then-self-gt253-clause-fits : goal.returns-then-self-gt253-clause-fits
 returns-then-self-gt253-clause-fits c = λ m h.
