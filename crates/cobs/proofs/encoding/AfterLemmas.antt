@@ -74,7 +74,7 @@ module _ {slice m : List ℕ} {r : Reached} (h : CobsEncoderAfter slice r m) whe
   there (inr open') =
       let is : h.frame ≡ h.follows.0 = whole-is open' ∙ sym (f-is o) in
       let out : IsOpenOutput (take (length h.follows.0) slice) r.block m = grind arith in
-      let long : length h.follows.0 ≡ next_of r = ap length (f-is o) ∙ length-append (concat o.front) (r.block.code ∷ o.bytes) ∙ omega (arith, parts.1.0) in
+      let long : length h.follows.0 ≡ next_of r = ap length (f-is o) ∙ length-append (concat o.front) _ ∙ omega (arith, parts.1.0) in
       Opened-same (rw long at (output-opened out)) slice (grind (arith, take-take))
 
   -- the converse of `to_after`

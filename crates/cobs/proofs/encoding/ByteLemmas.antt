@@ -38,7 +38,7 @@ module _ {source slice : List ℕ} {r : Reached} {next : ℕ} (place : IsPlaceIn
 
   -- any other byte joins the open block
   more : get_or source 0 0 ≢ 0 → Reaches (start_with slice r source) (set slice next (get_or source 0 0)) 1 r.block.index (next + 1) IsNotFull
-  more other = joined (get_or source 0 0) some start refl other (omega arith) fits
+  more other = joined _ some start refl other (omega arith) fits
 
   pub byte-joins : {r' : Reached} {code : ℕ} → get_or source 0 0 ≢ 0 → r.block.code ≢ 254 → code ≡ r.block.code + 1
       → r' ≡ place_at r.block.index code false → TakesFront slice r source 1 (set slice next (get_or source 0 0)) r'
@@ -66,7 +66,6 @@ module _ {slice m : List ℕ} {r : Reached} (h : CobsEncoderAfter slice r m) (ro
   pub after-filled : (byte : ℕ) → byte ≢ 0 → r.block.code ≡ 254
       → CobsEncoderAfter (set (set slice (next_of r) byte) r.block.index 255) (place_at (r.block.index + 255) 1 true) (m ++ byte ∷ [])
   after-filled byte other last =
-      let full : r.block.index + 255 ≡ next_of r + 1 = omega arith in
       (byte-fills {source = byte ∷ []} (after-place h) (fits byte) (omega arith) refl other last (grind arith)).after m h
 
   pub after-zero : CobsEncoderAfter (set slice r.block.index r.block.code) (place_at (next_of r) 1 false) (m ++ 0 ∷ [])
@@ -80,7 +79,7 @@ is-place e n short room = grind arith
 
 -- there is room for a byte exactly if the byte's index is within the slice
 pub has-room : (e : UnbufferedEncoder) (slice : List ℕ) (byte : ℕ) → e.taken ≤ 253 → e.index + e.taken + 1 < length slice → HasRoomFor (length slice) (reached_by e) (byte ∷ [])
-has-room e slice byte short room = record { place = is-place e (length slice) short room; fits = fits-byte slice (reached_by e) byte (omega arith) (omega arith) (omega arith) }
+has-room e slice byte short room = record { place = is-place e _ short room; fits = fits-byte slice (reached_by e) byte (omega arith) (omega arith) (omega arith) }
 
 -- the converses: the open block of a possible state isn't full, and if there is room for a byte, its index is within
 pub place-short : (e : UnbufferedEncoder) (n : ℕ) → IsPlaceIn n (reached_by e) → e.taken ≤ 253

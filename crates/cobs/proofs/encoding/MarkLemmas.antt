@@ -30,7 +30,7 @@ pub record Copied (s : Start) (slice : List ℕ) (read len index next : ℕ) : T
 
 pub copied-by : {s : Start} {slice after : List ℕ} {read len index next : ℕ} {P : Bool → Type 0} → Reaches s slice read index next P → read + len ≤ length s.source → whole_end s ≤ length slice
     → after ≡ take next slice ++ (take len (drop read s.source) ++ drop (next + len) slice) → Copied s after read len index next
-copied-by {s} {slice} {after} {read} {len} {index} {next} before inside fits is =
+copied-by {s} {slice} {after} {read} {len} before inside fits is =
     let r = Reaches-weaker before {Q = λ _. Unit {0}} (λ full p. tt) in
     let room = least r in
     let row = length-chunk read len s.source inside in
@@ -44,8 +44,8 @@ copied-by {s} {slice} {after} {read} {len} {index} {next} before inside fits is 
 -- the first k copied bytes, which aren't zeros, join the open block
 copied-joins : {s : Start} {slice : List ℕ} {read len index next : ℕ} → Copied s slice read len index next → (k : ℕ) → 0 < k → k ≤ len → next + k ≤ index + 255
     → HasNoZero (take k (drop read s.source)) → Reaches s slice (read + k) index (next + k) IsNotFull
-copied-joins {s} {slice} {read} {len} {index} {next} c k some le short nonzero =
-    let here = sym (grind (arith, take-take)) ∙ ap (take k) c.here ∙ take-take k len (drop read s.source) le in
+copied-joins {len = len} c k some le short nonzero =
+    let here = sym (grind (arith, take-take)) ∙ ap (take k) c.here ∙ take-take k len _ le in
     Reaches-join c.reaches c.room k (omega arith) short nonzero here (grind arith) (λ z. refl)
 
 -- the copied bytes are a window, whose bits say which of them are zeros
@@ -72,7 +72,7 @@ module _ {s : Start} {slice : List ℕ} {read len index next zeros : ℕ} (w : C
       let sum : next + until_full ≡ index + 255 = omega arith in
       let long = length-chunk read len s.source w.copied.inside in
       let near = ap (λ n. min (lowest n) len) w.bits in
-      let nonzero = rw (take-take until_full len (drop read s.source) (omega arith)) at (clear_front (take len (drop read s.source)) (omega arith) until_full (omega arith)) in
+      let nonzero = rw (take-take until_full len _ (omega arith)) at (clear_front (take len (drop read s.source)) (omega arith) until_full (omega arith)) in
       let joined = copied-joins w.copied until_full (omega arith) (omega arith) (omega arith) nonzero in
       Reaches-full (rw sum at joined) more refl w.copied.room refl
 
@@ -127,18 +127,18 @@ module _ {s : Start} {slice : List ℕ} {read len index next zeros d : ℕ} (m :
         let lt = first-lt in
         let sum : len - d ≡ j + 1 + (len - (k + 1)) = omega arith in
         let cut : (xs : List ℕ) (a : ℕ) → drop (j + 1) (take (len - d) (drop (a + d) xs)) ≡ take (len - (k + 1)) (drop (a + (k + 1)) xs) =
-        λ xs a. ap (λ m. drop (j + 1) (take m (drop (a + d) xs))) sum ∙ drop-take (j + 1) (len - (k + 1)) (drop (a + d) xs)
-        ∙ ap (take (len - (k + 1))) (grind (arith, drop-drop)) in
-        let front = take-take j (len - d) (drop (read + d) s.source) (omega arith) in
+        λ xs a. ap (λ m. drop (j + 1) (take m (drop (a + d) xs))) sum ∙ drop-take (j + 1) _ _
+        ∙ ap (take _) (grind (arith, drop-drop)) in
+        let front = take-take j (len - d) _ (omega arith) in
         let there = mask_behind-some d left some_bits in
         let nonzero = subst HasNoZero front (nonzero_len-before left there) in
-        let here = sym (take-take j (len - d) (drop (next + d) slice) (omega arith)) ∙ ap (take j) m.here ∙ front in
+        let here = sym (take-take j (len - d) _ (omega arith)) ∙ ap (take j) m.here ∙ front in
         let zero_at : get_or s.source (read + d + j) 0 ≡ 0 =
-        sym (get_or-drop (read + d) s.source j 0) ∙ sym (grind (arith, get_or-take)) ∙ nonzero_len-at left there in
+        sym (get_or-drop _ s.source j 0) ∙ sym (grind (arith, get_or-take)) ∙ nonzero_len-at left there in
         let joined = Reaches-join m.reaches {Q = λ _. Unit {0}} m.room j (omega arith) (omega arith) nonzero here (λ full z p. tt) (λ z. tt) in
         let closed = Reaches-zero joined {Q = λ full. 0 < k + 1 → full ≡ false} m.room (omega arith) zero_at (omega arith) (λ lt. refl) in
         let long = length-set slice index (next + k - index) in
-        grind (arith, drop-set-lt, mask_behind-and, small, some_bits)
+        grind (arith, drop-set-lt, mask_behind-and, small)
 
   -- the place of the next code is no later than the next zero
   pub masked-ordered : index ≤ next + lowest zeros
@@ -187,7 +187,7 @@ pub row-taken : {s : Start} {slice after : List ℕ} {read index next : ℕ} {P 
     → 0 < n → read + n ≤ length s.source
     → take n (drop read s.source) ≡ replicate n 0 → after ≡ take next (set slice index (next - index)) ++ (replicate n 1 ++ drop (next + n) (set slice index (next - index)))
     → WindowTaken s after read n (next + n - 1) next
-row-taken {s} {slice} {after} {read} {index} {next} {P} r short fits n some inside zeros is =
+row-taken {s} {slice} {after} {read} {index} {next} r short fits n some inside zeros is =
     let room = least r in
     let m : ℕ = n - 1 in
     let sum : suc m ≡ n = omega arith in
@@ -197,11 +197,11 @@ row-taken {s} {slice} {after} {read} {index} {next} {P} r short fits n some insi
     let front_long = length-take-le next coded (omega arith) in
     let long : whole_end s ≤ length after = grind (arith, length-append, length-drop) in
     let zero = alike-first m read 0 s.source (omega arith) (grind arith) in
-    let closed = Reaches-zero r {Q = IsNotFull} fits (omega arith) zero.0 short refl in
-    let front = ap (take next) is ∙ front-three coded (replicate n 1) next n ones (omega arith) in
+    let closed = Reaches-zero r fits (omega arith) zero.0 short refl in
+    let front = ap (take next) is ∙ front-three coded _ next n ones (omega arith) in
     let back : drop (whole_end s) after ≡ drop (whole_end s) s.slice = grind (arith, behind-three) in
     let first = Reaches-same-empty closed after refl front back in
-    let row = ap (λ l. take n (drop next l)) is ∙ mid-three coded (replicate n 1) next n ones (omega arith) in
+    let row = ap (λ l. take n (drop next l)) is ∙ mid-three coded _ next n ones (omega arith) in
     let taken = Reaches-ones m first (omega arith) long zero.1 (grind arith) in
     record { ordered = omega arith; open' = omega arith; room = long; reaches = grind arith }
 

@@ -1,7 +1,7 @@
 -- Lemmas on a slice that has the open frame of a message, except the open block's code (`Opened`): nonzero bytes join
 -- the open block, and its code closes it. Such a slice follows from an open frame (`opened-of`), and the converse
 -- (`open_frame`). So the three ways in which a byte changes the output of a caller of `EncoderState` follow too.
-use Rattle.std.proofs.Common.{◌≡◌, ◌≢◌, ℕ, ◌+◌, ◌≤◌, ◌==◌, Bool, false, List, [], ◌∷◌, ◌++◌, length, drop, take, refl, sym, ap, ◌∙◌, arith, suc, length-append, length-take-le, length-take, ◌<◌, set, get_or, append-nil, append_assoc, take_at, drop_at, take_all, take-append-drop}
+use Rattle.std.proofs.Common.{◌≡◌, ◌≢◌, ℕ, ◌+◌, ◌≤◌, ◌==◌, Bool, false, List, [], ◌∷◌, ◌++◌, length, drop, take, refl, sym, ap, ◌∙◌, arith, length-append, length-take-le, length-take, ◌<◌, set, get_or, append-nil, append_assoc, take_at, drop_at, take_all, take-append-drop}
 use Rattle.std.specs.List.{concat}
 use Rattle.std.proofs.Math.ListN.{set}
 use Rattle.std.proofs.Math.Seq.{take-set-lt, take-add}
@@ -13,7 +13,6 @@ use Rattle.cobs.proofs.format.FrameLemmas.{concat-push, last_of-push}
 use Rattle.cobs.specs.Internal.Reaches.{Opened, ends_in_full}
 use Rattle.std.proofs.lemmas.Grind.{common_steps}
 use Rattle.cobs.specs.OpenBlock.{OpenBlock, AgreeOutside, IsOpenOutput}
-use Rattle.cobs_bytes.proofs.bytes.ListLemmas.{one-nonzero}
 
 -- an open block with bytes is no placeholder
 not_full-more : (front : List (List ℕ)) (bytes more : List ℕ) → more ≢ [] → ends_in_full front (bytes ++ more) ≡ false
@@ -68,16 +67,15 @@ module _ {slice m : List ℕ} {index next : ℕ} {full : Bool} (o : Opened slice
       let block : List ℕ = code ∷ o.bytes in
       let front' : List (List ℕ) = o.front ++ block ∷ [] in
       let few = o.few in
-      let one : suc index ≡ index + 1 = omega arith in
       let long : length (take next slice) ≡ next = length-take-le next slice fits in
       let wrote : take next (set slice index code) ≡ concat o.front ++ block =
-      take-set-lt next slice index code (omega arith) ∙ set_split (take next slice) index code (omega arith)
+      take-set-lt next slice index code (omega arith) ∙ set_split _ index code (omega arith)
       ∙ grind (arith, take-take) in
       record {
         front = front';
         bytes = [];
         each = All-push IsBlock o.front block o.each (sym code-is, omega arith, o.nonzero);
-        nonzero = All-nil (λ byte. byte ≢ 0);
+        nonzero = All-nil _;
         few = omega arith;
         message = grind (arith, message_of-close, last_of-push);
         begins = grind (arith, concat-push, length-append);
@@ -120,8 +118,8 @@ module _ {g m : List ℕ} {state : OpenBlock} (o : IsOpenOutput g state m) where
       let one : length (front ++ o.2.0 ∷ []) ≡ state.index + 1 = grind (arith, length_push) in
       let all = take_all next g (omega (arith, length-IsOpenOutput)) in
       opened-of o.1 refl
-      (grind (arith, output-is, take_at, begins))
-      (ap (drop (state.index + 1)) (grind (arith, output-is, append_assoc)) ∙ drop_at (front ++ o.2.0 ∷ []) o.1.bytes (state.index + 1) one)
+      (grind (arith, output-is, take_at))
+      (ap (drop (state.index + 1)) (grind (arith, output-is, append_assoc)) ∙ drop_at (front ++ o.2.0 ∷ []) o.1.bytes _ one)
 
 -- TO AN OPEN FRAME
 
@@ -147,7 +145,6 @@ module _ {slice m : List ℕ} {index next : ℕ} {full : Bool} (o : Opened slice
 
   pub open_slice : next ≤ length slice → AgreeOutside index (concat o.front ++ code ∷ o.bytes) (take next slice)
   open_slice fits =
-      let begins' = o.begins in
       let front_long = length-take-le next slice fits in
       let x : ℕ = get_or (take next slice) index 0 in
       let split = take-append-drop index (take next slice) in
@@ -177,7 +174,7 @@ module _ {g m : List ℕ} {state : OpenBlock} (o : IsOpenOutput g state m) where
       let code' = length-set g state.index state.code in
       let closed = Opened-close (output-opened o) state.code (omega arith) refl in
       let zero : joint (state.code ∷ []) ≡ 0 ∷ [] = grind arith in
-      let out = Opened-same-empty closed (set g state.index state.code ++ x ∷ []) refl (take-append-le _ _ _ (omega arith)) in
+      let out = Opened-same-empty closed _ refl (take-append-le _ _ _ (omega arith)) in
       rw zero at (opened-output out 1 refl (omega arith) (length_push _ x ∙ omega arith))
 
   module _ (byte : ℕ) (nonzero : byte ≢ 0) where
@@ -186,11 +183,11 @@ module _ {g m : List ℕ} {state : OpenBlock} (o : IsOpenOutput g state m) where
         let long = length-IsOpenOutput o in
         let longer = length_push g byte in
         let same = Opened-same (output-opened o) (g ++ byte ∷ []) (take-append-le _ _ _ (omega arith)) in
-        grind (arith, Opened-join, one-nonzero, drop_at)
+        grind (arith, Opened-join, drop_at)
 
     -- a nonzero byte joins the block
     pub open-more : state.code ≢ 254 → IsOpenOutput (g ++ byte ∷ []) (record { index = state.index; code = state.code + 1 }) (m ++ byte ∷ [])
-    open-more room = opened-output joins (state.code + 1) (omega arith) (omega arith) (length_push g byte ∙ omega (arith, length-IsOpenOutput o))
+    open-more room = opened-output joins _ (omega arith) (omega arith) (length_push g byte ∙ omega (arith, length-IsOpenOutput o))
 
     -- the 254th byte fills the block
     pub open-full : (x : ℕ) → state.code ≡ 254 → IsOpenOutput (set g state.index 255 ++ byte ∷ x ∷ []) (record { index = state.index + 255; code = 1 }) (m ++ byte ∷ [])
@@ -199,10 +196,10 @@ module _ {g m : List ℕ} {state : OpenBlock} (o : IsOpenOutput g state m) where
         let longer = length_push g byte in
         let sum : next o + 1 ≡ state.index + 255 = omega arith in
         let closed = Opened-close joins 255 (omega arith) (sym sum) in
-        let out = Opened-same-empty closed (set g state.index 255 ++ byte ∷ x ∷ []) refl (
-        let coded = set-append_left g (byte ∷ []) state.index 255 (index-IsOpenOutput o) in
+        let out = Opened-same-empty closed _ refl (
+        let coded = set-append_left g _ state.index 255 (index-IsOpenOutput o) in
         let long' = length-set g state.index 255 in
         let long_push = length_push (set g state.index 255) byte in
-        ap (take _) (sym (append_assoc (set g state.index 255) (byte ∷ []) (x ∷ []))) ∙ take-append-le _ _ _ (omega arith) ∙ ap (take _) (sym coded)
+        ap (take _) (sym (append_assoc _ (byte ∷ []) (x ∷ []))) ∙ take-append-le _ _ _ (omega arith) ∙ ap (take _) (sym coded)
         ) in
         rw (sum, append-nil) at (opened-output out 1 refl (omega arith) (grind (arith, length-append, length-set)))

@@ -109,7 +109,7 @@ alike-first n pos b xs within alike = let left = drop_more xs pos 0 (omega arith
 -- after a zero, n more zeros close n blocks without bytes, whose codes 1 are already in place
 pub Reaches-ones : (n : ℕ) {s : Start} {slice : List ℕ} {pos index : ℕ} → Reaches s slice pos index (index + 1) IsNotFull → pos + n ≤ length s.source → whole_end s ≤ length slice
     → take n (drop pos s.source) ≡ replicate n 0 → take (suc n) (drop index slice) ≡ replicate (suc n) 1 → Reaches s slice (pos + n) (index + n) (index + n + 1) IsNotFull
-Reaches-ones zero r within fits zeros ones = grind (arith, Reaches-at)
+Reaches-ones zero r within fits zeros ones = grind arith
 Reaches-ones (suc n) {s} {slice} {pos} {index} r within fits zeros ones =
     let room = least r in
     let zero = alike-first n pos 0 s.source within zeros in

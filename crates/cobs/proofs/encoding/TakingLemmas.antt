@@ -28,7 +28,7 @@ next-least r source code some = grind (arith, open_len-least)
 pub reaches-start : {source old : List ℕ} {r : Reached} → 0 < length source → 0 < r.block.code → r.block.code < 255
     → Reaches (start_with old r source) old 0 r.block.index (next_of r) (λ _. Unit {0})
 unfolding HadTaken
-reaches-start {source} {old} {r} some code short = grind (arith, append-nil, from_after)
+reaches-start some code short = grind (arith, append-nil, from_after)
 
 -- a byte is written after the open block's bytes
 module _ {s : Start} {slice : List ℕ} {read index next : ℕ} {P : Bool → Type 0} (byte : ℕ) (more : read < length s.source) (r : Reaches s slice read index next P) where
@@ -74,7 +74,7 @@ module _ {source old slice : List ℕ} {r r' : Reached} (fits : end_after r sour
       rw is (record {
         place = grind arith;
         after = λ m h. to_after 1 refl (omega arith) (omega arith) (full-taken s refl (omega arith) m h);
-        end = grind (arith, drop_all);
+        end = grind arith;
         rest = grind (arith, drop-set-lt);
       })
 
@@ -82,10 +82,10 @@ module _ {source old slice : List ℕ} {r r' : Reached} (fits : end_after r sour
 pub front-filled : {source old slice : List ℕ} {r r' : Reached} {pos index next code : ℕ} {P : Bool → Type 0} → end_after r source ≤ length slice
     → next ≡ index + 255 → Reaches (start_with old r source) slice pos index next P
     → code ≡ 1 → r' ≡ place_at next code true → TakesFront old r source pos (set slice index 255) r'
-front-filled {source} {old} {slice} {r} {r'} {pos} {index} {next} fits full s one is =
+front-filled {source} {old} {slice} {r} {r'} {pos} {index} fits full s one is =
     let long = length-set slice index 255 in
     elim (cases_lt pos (length source)) [
-      | inl more ↦ front-taken (omega arith) (Reaches-full s {Q = λ noted. noted ≡ true} more full fits refl) (omega arith) (grind arith) (omega arith) is
+      | inl more ↦ front-taken (omega arith) (Reaches-full s more full fits refl) (omega arith) (grind arith) (omega arith) is
       | inr none ↦ front-full fits (Reaches-at refl refl refl full (λ full p. p) s) (omega arith) (rw (full, one) at is)
     ]
 
@@ -96,7 +96,7 @@ module _ {slice slice' source left : List ℕ} {r r' : Reached} (n : ℕ) (is : 
   left-end = grind arith
 
   pub front-next : {slice'' : List ℕ} {r'' : Reached} (k : ℕ) → TakesFront slice' r' left k slice'' r'' → TakesFront slice r source (n + k) slice'' r''
-  front-next {slice''} {r''} k b = grind (arith, take-add, append_assoc, drop-drop)
+  front-next k b = grind (arith, take-add, append_assoc, drop-drop)
 
 -- the whole source is taken
 module _ {slice slice' source : List ℕ} {r r' : Reached} (t : TakesFront slice r source (length source) slice' r') where

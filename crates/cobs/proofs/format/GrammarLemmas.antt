@@ -111,7 +111,7 @@ lone-parts = refl
 module _ (block f : List ℕ) (is : IsBlock block) where
   -- the blocks of the frame are this block and the blocks of the other bytes
   blocks-are : (blocks : List (List ℕ)) → IsFrameOf (block ++ f) blocks → blocks ≡ block ∷ parts f
-  blocks-are blocks h = sym (parts-frame (block ++ f) blocks h) ∙ parts-block block f is
+  blocks-are blocks h = sym (parts-frame _ blocks h) ∙ parts-block block f is
 
   -- so the other bytes are a frame of their parts
   rest-frame : f ≢ [] → (blocks : List (List ℕ)) → IsFrameOf (block ++ f) blocks → IsFrameOf f (parts f)

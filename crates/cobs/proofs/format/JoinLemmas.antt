@@ -38,7 +38,7 @@ first_blocks p q blocks first frame front = cc (parts-frame (p ++ q) blocks fram
 -- the message of the first blocks is a front of the message of all
 message_of-front : (first rest : List (List ℕ)) → first ≢ [] → (more : List ℕ) × (message_of (first ++ rest) ≡ message_of first ++ more)
 message_of-front first [] some = grind (arith, append-nil)
-message_of-front first (b ∷ rest) some = (_, message_of-append first (b ∷ rest) some (λ e. cc) ∙ append_assoc (message_of first) (joint (last_of first)) (message_of (b ∷ rest)))
+message_of-front first (b ∷ rest) some = (_, message_of-append first (b ∷ rest) some (λ e. cc) ∙ append_assoc (message_of first) _ (message_of (b ∷ rest)))
 
 -- a front is a frame exactly if it ends at a block's end
 pub front_frame : (p q m : List ℕ) (r : Reads (p ++ q) m) → p ≢ [] → IsFrame p ↔ EndsAtBlock p r.blocks

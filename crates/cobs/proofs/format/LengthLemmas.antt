@@ -60,7 +60,7 @@ full_blocks-le (p ∷ q ∷ ps) = grind (arith, length-append, full_blocks-le (q
 -- the bound. Messages without zeros reach it, so it is reached at each length.
 pub encoded_len-le : (m : List ℕ) → encoded_len m ≤ max_encoded_len (length m)
 encoded_len-le m =
-    let h = subst (λ x. full_blocks (runs m) + 1 ≤ max_overhead (length x)) (join_with_byte-slice_split 0 m) (full_blocks-le (stretches m)) in
+    let h = subst (λ x. full_blocks (runs m) + 1 ≤ max_overhead (length x)) (join_with_byte-slice_split 0 m) (full_blocks-le _) in
     omega arith
 
 -- a message of at most 254 bytes has one code

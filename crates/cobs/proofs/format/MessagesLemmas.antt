@@ -1,6 +1,6 @@
 -- A stream that has a frame and a zero for each of some messages has these messages as its outcomes: by `StreamLemmas`, one
 -- message at a time.
-use Rattle.std.proofs.Common.{◌≡◌, ◌≢◌, ℕ, ◌+◌, ◌<◌, ◌≤◌, List, [], ◌∷◌, ◌++◌, length, take, set, map, All, arith, append_assoc, length-append, length-take, get_or}
+use Rattle.std.proofs.Common.{◌≡◌, ℕ, ◌+◌, ◌<◌, ◌≤◌, List, [], ◌∷◌, ◌++◌, length, take, set, map, All, arith, append_assoc, length-append, length-take, get_or}
 use Rattle.std.specs.List.{AllZip, flat_map}
 use Rattle.std.proofs.lemmas.List.{take-map, flat_map_more}
 use Rattle.std.proofs.lemmas.List.Elements.{AllZip-push, All-nil, All-head, All-tail}
@@ -60,7 +60,7 @@ length-written dest new end part within = grind (arith, length-append, length-ta
 
 outcomes_of_frames : (frames messages : List (List ℕ)) (n : ℕ) → AllZip IsEncodedFrame frames messages → All (λ m. length m ≤ n) messages
     → stream_outcomes (flat_map (λ f. f ++ 0 ∷ []) frames) n ≡ map Message messages
-outcomes_of_frames [] [] n h fits = stream_outcomes-no_zero [] n (All-nil (λ b. b ≢ 0))
+outcomes_of_frames [] [] n h fits = stream_outcomes-no_zero [] n (All-nil _)
 outcomes_of_frames [] (m ∷ messages) n h fits = absurd h
 outcomes_of_frames (f ∷ frames) [] n h fits = absurd h
 outcomes_of_frames (f ∷ frames) (m ∷ messages) n h fits =

@@ -22,7 +22,7 @@ pub returns-clause-frame : goal.returns-clause-frame
 returns-clause-frame c =
     let coded : List ℕ = c.encode-len.new.dest in
     let m : List ℕ = c.args.source.now in
-    frame_for c.args.sentinel (length m + 1) coded c.xor_bytes.new.bytes m (omega arith) c.xor_bytes.ensures.changed
+    frame_for c.args.sentinel _ coded c.xor_bytes.new.bytes m (omega arith) c.xor_bytes.ensures.changed
     (rw (len-is (goal.at.returns-clause-frame c).After-xor_bytes) at c.encode-len.ensures.frame)
 
 pub returns-clause-rest : goal.returns-clause-rest

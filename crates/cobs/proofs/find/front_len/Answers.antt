@@ -31,13 +31,13 @@ module _ {bytes : List ℕ} {zeros : ℕ} (w : Window bytes zeros) (some : zeros
   place = ap lowest w.is
 
   within : first < 32
-  within = grind (arith, long, place, lowest-within)
+  within = grind (arith, long, lowest-within)
 
   before : HasNoZero (take first bytes)
-  before = rw (← take-take first 32 bytes (omega (arith, within))) (grind (arith, clear_front, long, place))
+  before = rw (← take-take first 32 bytes (omega (arith, within))) (grind (arith, clear_front, long))
 
   stop : get_or bytes first 0 ≡ 0
-  stop = sym (get_or-take 32 bytes first 0 within) ∙ rw place (grind (arith, lowest-zero, long, place, within))
+  stop = sym (get_or-take 32 bytes first 0 within) ∙ rw place (grind (arith, lowest-zero, long, within))
 
 -- the first window has no zero
 module _ (c : After-zeros_at-later) where
@@ -57,7 +57,7 @@ module _ (c : After-zeros_at-later) where
   both k after =
       let none = zero_mask-none (take 32 source) (grind arith) in
       let front = rw (take-take at 32 source (omega arith)) at (All-take (λ b. b ≢ 0) at (take 32 source) none) in
-      rw (take-add at k source) (All-append (λ b. b ≢ 0) (take at source) (take k (drop at source)) front after)
+      rw (take-add at k source) (All-append (λ b. b ≢ 0) _ _ front after)
 
   -- the second window has no zero either
   module _ (none : c.zeros_at-later.result ≡ 0) where
@@ -76,7 +76,6 @@ pub returns-then-zeros-ne0 : goal.returns-then-zeros-ne0
 returns-then-zeros-ne0 c =
     let w : Window c.args.source.now c.zeros_at-zeros.result = record { long = omega arith; is = c.zeros_at-zeros.ensures } in
     let some = c.if-zeros-ne0.true in
-    let lt = within w some in
     grind (arith, within, before, stop)
 
 pub returns-then-later-ne0 : goal.returns-then-later-ne0

@@ -1,6 +1,6 @@
 -- Each turn takes one window: without a zero (`masked-end`), with zeros that are marked (`masked-step`), with zeros only
 -- (`row-taken`), or up to a full block (`filled`).
-use Rattle.std.proofs.Common.{ℕ, ◌≡◌, refl, ◌≢◌, ◌<◌, ◌≤◌, ◌+◌, ◌-◌, min, arith, length, take, drop, length-drop}
+use Rattle.std.proofs.Common.{ℕ, ◌≡◌, refl, ◌≢◌, ◌<◌, ◌≤◌, ◌+◌, ◌-◌, min, arith, length, length-drop}
 use lib.Count.{count_trailing_zeros}
 use Rattle.std.proofs.lemmas.Grind.{common_steps}
 use Rattle.std.proofs.lemmas.Simd.{length-chunk}
@@ -54,7 +54,7 @@ pub by_window-preserved-then-next-index : goal.by_window-preserved-then-next-ind
 by_window-preserved-then-next-index c =
     let w = copied (goal.at.by_window-preserved-then-next-index c).After-copy_at-window in
     let taken = masked-end (masked-start w (omega arith)) c.if-window-eq0.true in
-    grind (arith, Reaches-weaker)
+    grind arith
 
 pub mark_zeros-index-requires : goal.mark_zeros-index-requires
 mark_zeros-index-requires c = (_, _, _, coded (goal.at.mark_zeros-index-requires c).After-copy_at-window c.if-window-eq0.false (omega arith))
@@ -68,7 +68,7 @@ row c w =
     let fits = w.copied.room in
     let long = length-drop c.by_window.read c.args.source.now in
     let n = length-chunk c.by_window.read 32 c.args.source.now w.copied.inside in
-    let zeros = (window_all (take 32 (drop c.by_window.read c.args.source.now)) (omega arith) (grind arith)).1 in
+    let zeros = (window_all _ (omega arith) (grind arith)).1 in
     let first : lowest c.copy_at-window.result ≡ 0 = grind arith in
     let code : c.by_window.next + lowest c.copy_at-window.result - c.by_window.index ≡ c.by_window.next - c.by_window.index = omega arith in
     let written = rw (take_rest c.args.source.now c.by_window.read, code) at c.write_codes_of_zeros-zeros.ensures in
@@ -79,7 +79,7 @@ pub by_window-preserved-then-window-eq-ALL_ZEROS : goal.by_window-preserved-then
 by_window-preserved-then-window-eq-ALL_ZEROS c =
     let at = goal.at.by_window-preserved-then-window-eq-ALL_ZEROS c in
     let t = row at.After-write_codes_of_zeros-zeros (copied at.After-copy_at-window) in
-    grind (arith, Reaches-weaker)
+    grind arith
 
 pub by_window-smaller-then-window-eq-ALL_ZEROS : goal.by_window-smaller-then-window-eq-ALL_ZEROS
 by_window-smaller-then-window-eq-ALL_ZEROS c =
@@ -89,7 +89,7 @@ by_window-smaller-then-window-eq-ALL_ZEROS c =
 pub by_window-preserved : goal.by_window-preserved
 by_window-preserved c =
     let taken = masked-end (c.mark_zeros-index.ensures _ _ _ (coded (goal.at.by_window-preserved c).After-copy_at-window c.if-window-eq0.false (omega arith))) refl in
-    grind (arith, Reaches-weaker)
+    grind arith
 
 -- no zero is near enough to keep the block from being full
 none-near : (c : Joined-window-eq0) → (c.copy_at-window.result ≢ 0 → lowest c.copy_at-window.result < 32)

@@ -7,9 +7,9 @@ use Rattle.cobs.proofs.enc.blocks.close.Goals as goal
 pub returns-then-encoder-ne0-2-clause-frame : goal.returns-then-encoder-ne0-2-clause-frame
 returns-then-encoder-ne0-2-clause-frame c = λ m h.
     let frame = closed-full h (grind arith) in
-    grind (arith, goal.then-index-dest, take-set, goal.else-index-dest)
+    grind (arith, take-set)
 
 pub returns-clause-frame : goal.returns-clause-frame
 returns-clause-frame c = λ m h.
     let frame = closed-open h (grind arith) in
-    grind (arith, goal.then-index-dest, goal.then-encoder-ne0, goal.else-encoder-ne0, goal.else-index-dest)
+    grind arith

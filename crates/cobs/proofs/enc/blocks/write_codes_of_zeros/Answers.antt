@@ -18,6 +18,6 @@ by_row-preserved c =
       within = omega arith;
       zeros = take-add len 32 source ∙ ap (λ x. x ++ take 32 (drop len source)) i.zeros ∙ ap (λ x. replicate len 0 ++ x) row ∙ replicate-append-replicate len 32 0;
       written = c.write_row.ensures ∙ ap (λ x. take (at + len) x ++ (replicate 32 1 ++ drop (at + len + 32) x)) i.written
-          ∙ three-next c.args.dest.now (replicate len 1) at len (length-replicate len 1) (omega arith) (replicate 32 1) 32
+          ∙ three-next c.args.dest.now _ at len (length-replicate len 1) (omega arith) (replicate 32 1) 32
           ∙ ap (λ x. take at c.args.dest.now ++ (x ++ drop (at + (len + 32)) c.args.dest.now)) (replicate-append-replicate len 32 1);
     }

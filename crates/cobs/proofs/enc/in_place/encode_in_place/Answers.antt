@@ -36,7 +36,7 @@ append_byte-requires c =
     let i = c.by_byte.invariant in
     let byte : ℕ = get_or c.by_byte.buffer (c.max_encoding_overhead-before.result + c.by_byte.taken) 0 in
     let long = length-take c.by_byte.taken (drop c.max_encoding_overhead-before.result c.args.buffer.now) in
-    let room = room-only c.by_byte.encoder (length c.by_byte.buffer) byte
+    let room = room-only c.by_byte.encoder _ byte
     (record { place = after-place i.after; fits = fits-one byte c.args.len i.after (omega arith) (omega arith) }) in
     grind arith
 
@@ -53,7 +53,7 @@ by_byte-preserved c =
     let end = end-is i.after in
     let most = encoded_len-le (take c.by_byte.taken (drop before old)) in
     let byte : get_or c.by_byte.buffer at 0 ≡ get_or (drop before old) c.by_byte.taken 0 =
-    there (end_of r) at c.by_byte.buffer old (omega arith) i.rest ∙ sym (grind (arith, get_or-drop)) in
+    there _ at c.by_byte.buffer old (omega arith) i.rest ∙ sym (grind (arith, get_or-drop)) in
     let more : take (c.by_byte.taken + 1) (drop before old) ≡ take c.by_byte.taken (drop before old) ++ get_or c.by_byte.buffer at 0 ∷ [] = grind (arith, take_more) in
     grind (arith, drop-later, next-least r (get_or c.by_byte.buffer at 0 ∷ []) (after-place i.after).some (omega arith))
 

@@ -13,9 +13,6 @@ returns c = grind (arith, len-end)
 
 pub by_byte-preserved : goal.by_byte-preserved
 by_byte-preserved c =
-    let total = c.by_byte.invariant.total in
-    let more = c.by_byte.invariant.more in
-    let short = c.by_byte.invariant.short in
     let next = c.by_byte-test.true in
     -- after a full block is closed, the invariant holds for an open block that has room for the byte
     let ready : (c.if-taken-eq-FULL_BLOCK_BYTES.taken < 254) × (0 < c.if-taken-eq-FULL_BLOCK_BYTES.left)
@@ -26,5 +23,4 @@ by_byte-preserved c =
           rw (w.left-is, w.taken-is) (omega arith, omega arith, omega arith)
       | goal.else-taken-eq-FULL_BLOCK_BYTES w ↦ grind arith
     ] in
-    let more' = ready.1 in
-    grind (arith, goal.then-bytes-i-ne0, len-byte, goal.else-bytes-i-ne0, len-zero)
+    grind (arith, len-byte, len-zero)

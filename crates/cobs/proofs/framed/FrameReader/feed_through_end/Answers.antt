@@ -27,7 +27,7 @@ pub returns-in-Some-clause-first : goal.returns-in-Some-clause-first
 returns-in-Some-clause-first g c = λ p h.
     let t = c.in-Some.ensures.takes in
     record {
-      outcome = outcome_at c.in-Some.end (g.D.FrameDecoder.bytes c.feed_piece.new.self);
+      outcome = outcome_at c.in-Some.end _;
       is = grind arith;
       first = EndsFirstIn-taken _ t p h;
       decoded = HasDecoded-taken _ t p h;
@@ -35,7 +35,6 @@ returns-in-Some-clause-first g c = λ p h.
 
 pub returns-in-Some-clause-bound : goal.returns-in-Some-clause-bound
 returns-in-Some-clause-bound g c =
-    let t = c.in-Some.ensures.takes in
     next_within c.next_at.result _ c.args.self.now.has_taken (grind arith)
 
 pub returns-in-Some-clause-idle : goal.returns-in-Some-clause-idle

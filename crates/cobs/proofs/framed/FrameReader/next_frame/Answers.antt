@@ -1,7 +1,7 @@
 -- A call begins without a read (`Going-start`), and each read that ends no piece adds one read (`Going-push`). For each
 -- way in which the call can end, `ReadingLemmas` has a lemma whose name begins with `ReadsNext`: kept bytes, a failure,
 -- the end of the source, a piece, too many reads. No step changes which buffer the decoder was lent (`same_loan`).
-use Rattle.std.proofs.Common.{◌≡◌, ◌≤◌, [], subst, take, Some, arith}
+use Rattle.std.proofs.Common.{◌≡◌, [], subst, take, Some, arith}
 use Rattle.cobs.proofs.streaming.ReadingLemmas.{Going-start, Going-push, ReadsNext-kept, ReadsNext-failed, ReadsNext-end, ReadsNext-piece, ReadsNext-too_many, front_rest, empty_range, left_of_range}
 use Rattle.cobs.proofs.framed.FrameReader.next_frame.Goals as goal
 
@@ -27,7 +27,7 @@ by_read-preserved g c =
     let emptied : r.start ≡ r.end = grind arith in
     record {
       emptied = emptied;
-      going = Going-push (take _ _) _ (grind arith) c.by_read.invariant.going
+      going = Going-push _ _ (grind arith) c.by_read.invariant.going
           c.in-Some-read_some.ensures.step e.len (λ q b.
           let t = e.none q b in
           (record { none_ended = t.0.none_ended; after = t.0.after; nothing_kept = empty_range r.chunk r.start r.end emptied }, t.1));
@@ -39,8 +39,7 @@ returns-in-Some-feed_through_end-clause-next g c =
     let n = c.in-Some-read_some.n in
     let chunk = c.read_some.new.chunk in
     let e = c.in-Some-feed_through_end.ensures in
-    let within : c.in-Some-feed_through_end.count ≤ n = omega arith in
-    ReadsNext-piece (take n chunk) _ (omega arith) c.by_read.invariant.going c.in-Some-read_some.ensures.step e.len
+    ReadsNext-piece _ _ (omega arith) c.by_read.invariant.going c.in-Some-read_some.ensures.step e.len
     (grind (arith, front_rest)) e.idle
 
 pub returns-clause-next : goal.returns-clause-next

@@ -12,7 +12,7 @@ use Rattle.cobs.proofs.enc.unbuffered.UnbufferedEncoder.feed_len.Goals as goal
 -- after one of the tests failed there is no room
 none : (c : Joined-then-code-gt-FULL_BLOCK_BYTES) → HasRoomFor (length c.args.dest.now) (reached_by c.args.self.now) (c.args.byte ∷ []) → ⊥
 none c h =
-    grind (arith, room-only c.args.self.now (length c.args.dest.now) c.args.byte h)
+    grind (arith, room-only c.args.self.now _ c.args.byte h)
 
 pub returns-then-code-gt-FULL_BLOCK_BYTES-clause-room : goal.returns-then-code-gt-FULL_BLOCK_BYTES-clause-room
 returns-then-code-gt-FULL_BLOCK_BYTES-clause-room c = (λ t. cc, λ h. absurd (none c h))

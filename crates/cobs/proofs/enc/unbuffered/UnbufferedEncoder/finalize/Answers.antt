@@ -11,7 +11,7 @@ returns-then-not-is_within-clause-fits c = λ m h. cc (c.is_within.ensures.1 (af
 pub returns-clause-len : goal.returns-clause-len
 returns-clause-len c = λ m h.
     let end = end-is h in
-    grind (arith, goal.then-self-eq0, goal.else-self-eq0)
+    grind arith
 
 pub returns-clause-frame : goal.returns-clause-frame
 returns-clause-frame c = λ m h.
