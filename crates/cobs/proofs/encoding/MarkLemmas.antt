@@ -44,8 +44,8 @@ copied-by {s} {slice} {after} {read} {len} before inside fits is =
 -- the first k copied bytes, which aren't zeros, join the open block
 copied-joins : {s : Start} {slice : List ℕ} {read len index next : ℕ} → Copied s slice read len index next → (k : ℕ) → 0 < k → k ≤ len → next + k ≤ index + 255
     → HasNoZero (take k (drop read s.source)) → Reaches s slice (read + k) index (next + k) IsNotFull
-copied-joins {len = len} c k some le short nonzero =
-    let here = sym (grind (arith, take-take)) ∙ ap (take k) c.here ∙ take-take k len _ le in
+copied-joins {s} {slice} {read} {len} {index} {next} c k some le short nonzero =
+    let here = sym (take-take k len (drop next slice) le) ∙ ap (take k) c.here ∙ take-take k len (drop read s.source) le in
     Reaches-join c.reaches c.room k (omega arith) short nonzero here (grind arith) (λ z. refl)
 
 -- the copied bytes are a window, whose bits say which of them are zeros
@@ -197,7 +197,7 @@ row-taken {s} {slice} {after} {read} {index} {next} r short fits n some inside z
     let front_long = length-take-le next coded (omega arith) in
     let long : whole_end s ≤ length after = grind (arith, length-append, length-drop) in
     let zero = alike-first m read 0 s.source (omega arith) (grind arith) in
-    let closed = Reaches-zero r fits (omega arith) zero.0 short refl in
+    let closed = Reaches-zero r {Q = IsNotFull} fits (omega arith) zero.0 short refl in
     let front = ap (take next) is ∙ front-three coded _ next n ones (omega arith) in
     let back : drop (whole_end s) after ≡ drop (whole_end s) s.slice = grind (arith, behind-three) in
     let first = Reaches-same-empty closed after refl front back in

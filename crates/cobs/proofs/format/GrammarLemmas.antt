@@ -73,8 +73,8 @@ shorter_end ((c ∷ a) ∷ d ∷ ds) some each shorter =
 -- an encoded frame, given its blocks
 abbrev pub encoded-by : {f m : List ℕ} (blocks : List (List ℕ)) → IsFrameOf f blocks → m ≡ message_of blocks → IsShorter blocks → IsEncodedFrame f m
 encoded-by blocks frame message shorter = record {
-  reads = grind arith;
-  canonical = grind arith;
+  reads = record { blocks = blocks; frame = frame; message = message };
+  canonical = record { blocks = blocks; frame = frame; shorter = shorter };
 }
 
 -- a block before a frame

@@ -147,8 +147,8 @@ nonempty-unended_last p bytes h =
 
 -- nothing is unended at a sentinel
 unended-at_sentinel : (t : List ℕ) → IsAtSentinel t → unended t ≡ []
-unended-at_sentinel t (inl none) = grind (arith, unended-no_zero)
-unended-at_sentinel t (inr (front, ends)) = grind (arith, unended-zero)
+unended-at_sentinel t (inl none) = ap unended none ∙ unended-no_zero [] (All-nil _)
+unended-at_sentinel t (inr (front, ends)) = ap unended ends ∙ unended-zero front
 
 -- the bytes before a sentinel, up to the next one, and after that one have their own outcomes
 pub stream_outcomes-apart : (a d z : List ℕ) (n : ℕ) → IsAtSentinel a → stream_outcomes (a ++ d ++ 0 ∷ z) n ≡ stream_outcomes a n ++ stream_outcomes (d ++ 0 ∷ []) n ++ stream_outcomes z n

@@ -1,6 +1,6 @@
 -- Each turn takes one window: without a zero (`masked-end`), with zeros that are marked (`masked-step`), with zeros only
 -- (`row-taken`), or up to a full block (`filled`).
-use Rattle.std.proofs.Common.{ℕ, ◌≡◌, refl, ◌≢◌, ◌<◌, ◌≤◌, ◌+◌, ◌-◌, min, arith, length, length-drop}
+use Rattle.std.proofs.Common.{ℕ, ◌≡◌, refl, ◌≢◌, ◌<◌, ◌≤◌, ◌+◌, ◌-◌, min, arith, length, take, drop, length-drop}
 use lib.Count.{count_trailing_zeros}
 use Rattle.std.proofs.lemmas.Grind.{common_steps}
 use Rattle.std.proofs.lemmas.Simd.{length-chunk}
@@ -68,7 +68,7 @@ row c w =
     let fits = w.copied.room in
     let long = length-drop c.by_window.read c.args.source.now in
     let n = length-chunk c.by_window.read 32 c.args.source.now w.copied.inside in
-    let zeros = (window_all _ (omega arith) (grind arith)).1 in
+    let zeros = (window_all (take 32 (drop c.by_window.read c.args.source.now)) (omega arith) (grind arith)).1 in
     let first : lowest c.copy_at-window.result ≡ 0 = grind arith in
     let code : c.by_window.next + lowest c.copy_at-window.result - c.by_window.index ≡ c.by_window.next - c.by_window.index = omega arith in
     let written = rw (take_rest c.args.source.now c.by_window.read, code) at c.write_codes_of_zeros-zeros.ensures in
