@@ -44,10 +44,9 @@ to_after {slice} {m} {index} {next} {full} code is short fits o =
     by_end : (full : Bool) → (if full then index else next) ≤ length slice
         → let frame = closed_frame (open_frame o code is short) full in (length frame ≤ length slice) × AgreeOutside index frame (take (length frame) slice)
     by_end false fits =
-        let begins = o.begins in
-        let long : length (concat o.front ++ code ∷ o.bytes) ≡ next = length-append (concat o.front) (code ∷ o.bytes) ∙ omega arith in
+        let long : length (concat o.front ++ code ∷ o.bytes) ≡ next = grind (arith, length-append) in
         (omega arith, rw long (open_slice o code is fits))
-    by_end true fits = (grind (arith, append-nil), grind (arith, append-nil, set_past))
+    by_end true fits = grind (arith, append-nil, set_past)
 
 module _ {slice m : List ℕ} {r : Reached} (h : CobsEncoderAfter slice r m) where
   abbrev o : IsOpenFrame h.follows.0 m r.block.index r.block.code
@@ -74,9 +73,9 @@ module _ {slice m : List ℕ} {r : Reached} (h : CobsEncoderAfter slice r m) whe
       opened-of o refl (grind (arith, set_past)) (grind (arith, drop_all, length-take (next_of r) slice))
   there (inr open') =
       let is : h.frame ≡ h.follows.0 = whole-is open' ∙ sym (f-is o) in
-      let out : IsOpenOutput (take (length h.follows.0) slice) r.block m = (h.follows.0, o, rw is at h.begins) in
-      let long : length h.follows.0 ≡ next_of r = ap length (f-is o) ∙ length-append (concat o.front) (r.block.code ∷ o.bytes) ∙ omega (arith, parts.1.0, o.begins) in
-      Opened-same (rw long at (output-opened out)) slice (sym (take-take (next_of r) (next_of r) slice (omega arith)))
+      let out : IsOpenOutput (take (length h.follows.0) slice) r.block m = grind arith in
+      let long : length h.follows.0 ≡ next_of r = ap length (f-is o) ∙ length-append (concat o.front) _ ∙ omega (arith, parts.1.0) in
+      Opened-same (rw long at (output-opened out)) slice (grind (arith, take-take))
 
   -- the converse of `to_after`
   pub from_after : Opened slice m r.block.index (next_of r) r.full
@@ -85,7 +84,7 @@ module _ {slice m : List ℕ} {r : Reached} (h : CobsEncoderAfter slice r m) whe
   -- the end of the frame
   pub end-is : encoded_len m ≡ end_of r
   end-is =
-      grind (arith, whole-is refl, length-append, o.begins, sym (length-encoded h.frame m h.encoded), parts.1.0)
+      grind (arith, whole-is refl, length-append, sym (length-encoded h.frame m h.encoded), parts.1.0)
 
   length-frame : length h.frame ≡ end_of r
   length-frame = length-encoded h.frame m h.encoded ∙ end-is

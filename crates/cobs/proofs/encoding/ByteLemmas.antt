@@ -1,6 +1,6 @@
 -- Lemmas on an encoder over a slice that takes one more byte. The byte closes, joins or fills the open block, by
 -- `Reaches-zero`, `Reaches-join` and `Reaches-full`.
-use Rattle.std.proofs.Common.{◌≡◌, ◌≢◌, ℕ, ◌+◌, ◌-◌, ◌<◌, ◌≤◌, true, false, List, [], ◌∷◌, ◌++◌, length, get_or, replicate, refl, ap, ◌∙◌, arith}
+use Rattle.std.proofs.Common.{◌≡◌, ◌≢◌, ℕ, ◌+◌, ◌-◌, ◌<◌, ◌≤◌, true, false, List, [], ◌∷◌, ◌++◌, length, get_or, refl, ap, ◌∙◌, arith}
 use Rattle.std.proofs.Math.ListN.{set}
 use Rattle.std.proofs.lemmas.List.{length-set}
 use Rattle.cobs.specs.Grammar.{HasNoZero}
@@ -21,7 +21,7 @@ pub after-more : {slice m : List ℕ} {r : Reached} (a bytes : List ℕ) → Cob
     → bytes ≢ [] → encoded_len (m ++ bytes) ≡ r.block.index + encoded_len (a ++ bytes)
 after-more {r = r} a bytes h nonzero long some =
     let k = length-ones (r.block.code - 1) in
-    after-len h bytes some ∙ ap (λ n. r.block.index + n) (same_start (replicate (r.block.code - 1) 1) a bytes (ones-nonzero (r.block.code - 1)) nonzero (omega arith))
+    after-len h bytes some ∙ ap (λ n. r.block.index + n) (grind (arith, same_start, ones-nonzero))
 
 -- the first byte of a source is taken
 module _ {source slice : List ℕ} {r : Reached} {next : ℕ} (place : IsPlaceIn (length slice) r) (fits : end_after r source ≤ length slice) (some : 0 < length source) (at : next ≡ next_of r) where
@@ -38,7 +38,7 @@ module _ {source slice : List ℕ} {r : Reached} {next : ℕ} (place : IsPlaceIn
 
   -- any other byte joins the open block
   more : get_or source 0 0 ≢ 0 → Reaches (start_with slice r source) (set slice next (get_or source 0 0)) 1 r.block.index (next + 1) IsNotFull
-  more other = joined (get_or source 0 0) some start refl other (omega arith) fits
+  more other = joined _ some start refl other (omega arith) fits
 
   pub byte-joins : {r' : Reached} {code : ℕ} → get_or source 0 0 ≢ 0 → r.block.code ≢ 254 → code ≡ r.block.code + 1
       → r' ≡ place_at r.block.index code false → TakesFront slice r source 1 (set slice next (get_or source 0 0)) r'
@@ -58,7 +58,7 @@ fits-byte slice r byte some short room = grind (arith, short_room)
 -- the three steps, for the bytes that an encoder has taken
 module _ {slice m : List ℕ} {r : Reached} (h : CobsEncoderAfter slice r m) (room : next_of r < length slice) where
   fits : (byte : ℕ) → end_after r (byte ∷ []) ≤ length slice
-  fits byte = grind (arith, fits-byte, (after-place h))
+  fits byte = grind (arith, fits-byte, after-place h)
 
   pub after-byte : (byte : ℕ) → byte ≢ 0 → r.block.code < 254 → CobsEncoderAfter (set slice (next_of r) byte) (place_at r.block.index (r.block.code + 1) false) (m ++ byte ∷ [])
   after-byte byte other short = (byte-joins {source = byte ∷ []} (after-place h) (fits byte) (omega arith) refl other (omega arith) refl refl).after m h
@@ -66,8 +66,7 @@ module _ {slice m : List ℕ} {r : Reached} (h : CobsEncoderAfter slice r m) (ro
   pub after-filled : (byte : ℕ) → byte ≢ 0 → r.block.code ≡ 254
       → CobsEncoderAfter (set (set slice (next_of r) byte) r.block.index 255) (place_at (r.block.index + 255) 1 true) (m ++ byte ∷ [])
   after-filled byte other last =
-      let full : r.block.index + 255 ≡ next_of r + 1 = omega arith in
-      (byte-fills {source = byte ∷ []} (after-place h) (fits byte) (omega arith) refl other last (ap (λ i. place_at i 1 true) full)).after m h
+      (byte-fills {source = byte ∷ []} (after-place h) (fits byte) (omega arith) refl other last (grind arith)).after m h
 
   pub after-zero : CobsEncoderAfter (set slice r.block.index r.block.code) (place_at (next_of r) 1 false) (m ++ 0 ∷ [])
   after-zero = (byte-zero {source = 0 ∷ []} (after-place h) (fits 0) (omega arith) refl refl refl refl).after m h
@@ -80,7 +79,7 @@ is-place e n short room = grind arith
 
 -- there is room for a byte exactly if the byte's index is within the slice
 pub has-room : (e : UnbufferedEncoder) (slice : List ℕ) (byte : ℕ) → e.taken ≤ 253 → e.index + e.taken + 1 < length slice → HasRoomFor (length slice) (reached_by e) (byte ∷ [])
-has-room e slice byte short room = record { place = is-place e (length slice) short room; fits = fits-byte slice (reached_by e) byte (omega arith) (omega arith) (omega arith) }
+has-room e slice byte short room = record { place = is-place e _ short room; fits = fits-byte slice (reached_by e) byte (omega arith) (omega arith) (omega arith) }
 
 -- the converses: the open block of a possible state isn't full, and if there is room for a byte, its index is within
 pub place-short : (e : UnbufferedEncoder) (n : ℕ) → IsPlaceIn n (reached_by e) → e.taken ≤ 253

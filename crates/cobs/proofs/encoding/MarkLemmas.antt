@@ -9,7 +9,6 @@ use Rattle.std.proofs.Math.Seq.{take-set-lt}
 use Rattle.std.proofs.lemmas.Bool.{cases_eq}
 use Rattle.std.proofs.lemmas.List.{drop-drop, drop-take, take-take, get_or-take, get_or-drop, drop-set-lt, length-set, length-replicate, take-set}
 use Rattle.std.specs.Int.Count.{trailing_of_zero}
-use Rattle.std.proofs.lemmas.Grind.{common_steps}
 use Rattle.cobs.proofs.encoding.OpenedLemmas.{Opened-same}
 use Rattle.cobs.specs.Grammar.{HasNoZero}
 use Rattle.cobs.specs.OpenBlock.{Reached, end_after, next_of, place_at}
@@ -31,7 +30,7 @@ pub record Copied (s : Start) (slice : List ℕ) (read len index next : ℕ) : T
 
 pub copied-by : {s : Start} {slice after : List ℕ} {read len index next : ℕ} {P : Bool → Type 0} → Reaches s slice read index next P → read + len ≤ length s.source → whole_end s ≤ length slice
     → after ≡ take next slice ++ (take len (drop read s.source) ++ drop (next + len) slice) → Copied s after read len index next
-copied-by {s} {slice} {after} {read} {len} {index} {next} before inside fits is =
+copied-by {s} {slice} {after} {read} {len} before inside fits is =
     let r = Reaches-weaker before {Q = λ _. Unit {0}} (λ full p. tt) in
     let room = least r in
     let row = length-chunk read len s.source inside in
@@ -39,7 +38,7 @@ copied-by {s} {slice} {after} {read} {len} {index} {next} before inside fits is 
       inside = inside;
       room = grind (arith, length-append, length-take-le, length-drop);
       reaches = grind (arith, Opened-same, front-three, behind-three);
-      here = grind (arith, common_steps, mid-three);
+      here = grind (arith, mid-three);
     }
 
 -- the first k copied bytes, which aren't zeros, join the open block
@@ -47,7 +46,7 @@ copied-joins : {s : Start} {slice : List ℕ} {read len index next : ℕ} → Co
     → HasNoZero (take k (drop read s.source)) → Reaches s slice (read + k) index (next + k) IsNotFull
 copied-joins {s} {slice} {read} {len} {index} {next} c k some le short nonzero =
     let here = sym (take-take k len (drop next slice) le) ∙ ap (take k) c.here ∙ take-take k len (drop read s.source) le in
-    Reaches-join c.reaches c.room k (omega arith) short nonzero here (λ full z p. absurd (omega arith)) (λ z. refl)
+    Reaches-join c.reaches c.room k (omega arith) short nonzero here (grind arith) (λ z. refl)
 
 -- the copied bytes are a window, whose bits say which of them are zeros
 pub record CopiedWindow (s : Start) (slice : List ℕ) (read len index next zeros : ℕ) : Type 0 where
@@ -73,7 +72,7 @@ module _ {s : Start} {slice : List ℕ} {read len index next zeros : ℕ} (w : C
       let sum : next + until_full ≡ index + 255 = omega arith in
       let long = length-chunk read len s.source w.copied.inside in
       let near = ap (λ n. min (lowest n) len) w.bits in
-      let nonzero = rw (take-take until_full len (drop read s.source) (omega arith)) at (clear_front (take len (drop read s.source)) (omega arith) until_full (omega arith)) in
+      let nonzero = rw (take-take until_full len _ (omega arith)) at (clear_front (take len (drop read s.source)) (omega arith) until_full (omega arith)) in
       let joined = copied-joins w.copied until_full (omega arith) (omega arith) (omega arith) nonzero in
       Reaches-full (rw sum at joined) more refl w.copied.room refl
 
@@ -99,7 +98,7 @@ module _ {s : Start} {slice : List ℕ} {read len index next zeros d : ℕ} (m :
   masked-end none =
       let all = lowest-none zeros none in
       let nonzero = mask_behind-none d left (sym m.bits ∙ none) in
-      let joined = Reaches-join m.reaches {Q = IsNotFull} m.room (len - d) (omega arith) (omega arith) nonzero m.here (λ full z p. p (omega arith)) (λ z. refl) in
+      let joined = Reaches-join m.reaches {Q = IsNotFull} m.room (len - d) (omega arith) (omega arith) nonzero m.here (grind arith) (λ z. refl) in
       grind arith
 
   -- another byte is in the place of the open block's code
@@ -128,18 +127,18 @@ module _ {s : Start} {slice : List ℕ} {read len index next zeros d : ℕ} (m :
         let lt = first-lt in
         let sum : len - d ≡ j + 1 + (len - (k + 1)) = omega arith in
         let cut : (xs : List ℕ) (a : ℕ) → drop (j + 1) (take (len - d) (drop (a + d) xs)) ≡ take (len - (k + 1)) (drop (a + (k + 1)) xs) =
-        λ xs a. ap (λ m. drop (j + 1) (take m (drop (a + d) xs))) sum ∙ drop-take (j + 1) (len - (k + 1)) (drop (a + d) xs)
-        ∙ ap (take (len - (k + 1))) (drop-drop (j + 1) (a + d) xs ∙ ap (λ m. drop m xs) (omega arith)) in
-        let front = take-take j (len - d) (drop (read + d) s.source) (omega arith) in
+        λ xs a. ap (λ m. drop (j + 1) (take m (drop (a + d) xs))) sum ∙ drop-take (j + 1) _ _
+        ∙ ap (take _) (grind (arith, drop-drop)) in
+        let front = take-take j (len - d) _ (omega arith) in
         let there = mask_behind-some d left some_bits in
         let nonzero = subst HasNoZero front (nonzero_len-before left there) in
-        let here = sym (take-take j (len - d) (drop (next + d) slice) (omega arith)) ∙ ap (take j) m.here ∙ front in
+        let here = sym (take-take j (len - d) _ (omega arith)) ∙ ap (take j) m.here ∙ front in
         let zero_at : get_or s.source (read + d + j) 0 ≡ 0 =
-        sym (get_or-drop (read + d) s.source j 0) ∙ sym (get_or-take (len - d) (drop (read + d) s.source) j 0 lt) ∙ nonzero_len-at left there in
+        sym (get_or-drop _ s.source j 0) ∙ sym (grind (arith, get_or-take)) ∙ nonzero_len-at left there in
         let joined = Reaches-join m.reaches {Q = λ _. Unit {0}} m.room j (omega arith) (omega arith) nonzero here (λ full z p. tt) (λ z. tt) in
         let closed = Reaches-zero joined {Q = λ full. 0 < k + 1 → full ≡ false} m.room (omega arith) zero_at (omega arith) (λ lt. refl) in
         let long = length-set slice index (next + k - index) in
-        grind (arith, drop-set-lt, ap without_lowest m.bits ∙ mask_behind-and d left small some_bits)
+        grind (arith, drop-set-lt, mask_behind-and, small)
 
   -- the place of the next code is no later than the next zero
   pub masked-ordered : index ≤ next + lowest zeros
@@ -188,7 +187,7 @@ pub row-taken : {s : Start} {slice after : List ℕ} {read index next : ℕ} {P 
     → 0 < n → read + n ≤ length s.source
     → take n (drop read s.source) ≡ replicate n 0 → after ≡ take next (set slice index (next - index)) ++ (replicate n 1 ++ drop (next + n) (set slice index (next - index)))
     → WindowTaken s after read n (next + n - 1) next
-row-taken {s} {slice} {after} {read} {index} {next} {P} r short fits n some inside zeros is =
+row-taken {s} {slice} {after} {read} {index} {next} r short fits n some inside zeros is =
     let room = least r in
     let m : ℕ = n - 1 in
     let sum : suc m ≡ n = omega arith in
@@ -199,12 +198,12 @@ row-taken {s} {slice} {after} {read} {index} {next} {P} r short fits n some insi
     let long : whole_end s ≤ length after = grind (arith, length-append, length-drop) in
     let zero = alike-first m read 0 s.source (omega arith) (grind arith) in
     let closed = Reaches-zero r {Q = IsNotFull} fits (omega arith) zero.0 short refl in
-    let front = ap (take next) is ∙ front-three coded (replicate n 1) next n ones (omega arith) in
+    let front = ap (take next) is ∙ front-three coded _ next n ones (omega arith) in
     let back : drop (whole_end s) after ≡ drop (whole_end s) s.slice = grind (arith, behind-three) in
     let first = Reaches-same-empty closed after refl front back in
-    let row = ap (λ l. take n (drop next l)) is ∙ mid-three coded (replicate n 1) next n ones (omega arith) in
+    let row = ap (λ l. take n (drop next l)) is ∙ mid-three coded _ next n ones (omega arith) in
     let taken = Reaches-ones m first (omega arith) long zero.1 (grind arith) in
-    record { ordered = omega arith; open' = omega arith; room = long; reaches = grind (arith, Reaches-at) }
+    record { ordered = omega arith; open' = omega arith; room = long; reaches = grind arith }
 
 -- the first k bytes, which aren't zeros and are copied as one slice, join the open block
 pub slice-joined : {s : Start} {slice part : List ℕ} {index next k n m : ℕ} {P : Bool → Type 0} → Reaches s slice 0 index next P

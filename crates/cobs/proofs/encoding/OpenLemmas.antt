@@ -1,8 +1,7 @@
 -- Lemmas on the blocks of an open frame. Its message by `message_of-close` and `message_of-more`, and the encoded frame
 -- of this message: the open frame itself, or the blocks before a last block without bytes (`encoded-of`).
-use Rattle.std.proofs.Common.{◌≡◌, ◌≢◌, ℕ, ◌+◌, Bool, true, false, if◌then◌else◌, List, [], ◌∷◌, ◌++◌, length, All, refl, sym, ap, ◌∙◌, arith, append-nil, append_assoc}
+use Rattle.std.proofs.Common.{◌≡◌, ◌≢◌, ℕ, ◌+◌, Bool, true, false, if◌then◌else◌, List, [], ◌∷◌, ◌++◌, length, All, refl, ap, ◌∙◌, arith, append-nil, append_assoc}
 use Rattle.std.specs.List.{concat}
-use Rattle.std.proofs.lemmas.Bool.{ne_eqb}
 use Rattle.std.proofs.lemmas.List.{same_from_push}
 use Rattle.std.proofs.lemmas.Grind.{common_steps}
 use Rattle.cobs.specs.Grammar.{IsBlock, is_full, joint, last_of, lone_block, message_of, IsFrameOf, IsEncodedFrame, IsOpenFrame}
@@ -19,7 +18,7 @@ message_of-close front some = grind (arith, message_of-append, append-nil)
 pub message_of-more : (bs : List (List ℕ)) (c d : ℕ) (bytes more : List ℕ) → message_of (bs ++ (c ∷ bytes ++ more) ∷ []) ≡ message_of (bs ++ (d ∷ bytes) ∷ []) ++ more
 message_of-more [] c d bytes more = refl
 message_of-more (x ∷ []) c d bytes more = grind (arith, append_assoc)
-message_of-more (x ∷ y ∷ bs) c d bytes more = grind (arith, append_assoc, (message_of-more (y ∷ bs) c d bytes more))
+message_of-more (x ∷ y ∷ bs) c d bytes more = grind (arith, append_assoc, message_of-more (y ∷ bs) c d bytes more)
 
 -- a fact about all blocks holds for those before the last one, and for the last one
 pub All-front : (bs : List (List ℕ)) (b : List ℕ) → All IsBlock (bs ++ b ∷ []) → All IsBlock bs × IsBlock b
@@ -40,7 +39,7 @@ no_bytes front bytes h = grind arith
 -- an open frame
 module _ {m f : List ℕ} {index code : ℕ} (o : IsOpenFrame f m index code) where
   pub blocks-of : All IsBlock o.front × IsBlock (code ∷ o.bytes)
-  blocks-of = All-front o.front (code ∷ o.bytes) o.frame.each
+  blocks-of = All-front o.front _ o.frame.each
 
   pub f-is : f ≡ concat o.front ++ code ∷ o.bytes
   f-is = grind (arith, concat-push)
@@ -53,16 +52,16 @@ module _ {m f : List ℕ} {index code : ℕ} (o : IsOpenFrame f m index code) wh
   closed_frame full = concat o.front ++ (if full then [] else code ∷ o.bytes)
 
   pub closed_frame-is_frame : (full : Bool) → ends_in_full o.front o.bytes ≡ full → IsFrameOf (closed_frame full) (closed_blocks full)
-  closed_frame-is_frame false noted = frame_push o.front (code ∷ o.bytes) blocks-of.0 blocks-of.1
+  closed_frame-is_frame false noted = frame_push o.front _ blocks-of.0 blocks-of.1
   closed_frame-is_frame true noted = grind (arith, append-nil, blocks-of)
 
   pub closed_blocks-full : (full : Bool) → ends_in_full o.front o.bytes ≡ full → is_full (last_of (closed_blocks full)) ≡ full
-  closed_blocks-full false noted = ap is_full (last_of-push o.front (code ∷ o.bytes)) ∙ ne_eqb code 255 (λ e. omega arith)
-  closed_blocks-full true noted = (no_bytes o.front o.bytes noted).1
+  closed_blocks-full false noted = grind (arith, last_of-push)
+  closed_blocks-full true noted = grind arith
 
   closed_blocks-shorter : (full : Bool) → ends_in_full o.front o.bytes ≡ full → IsShorter (closed_blocks full)
   closed_blocks-shorter false noted fr c full e =
-      let same = same_from_push o.front (fr ++ c ∷ []) (code ∷ o.bytes) lone_block (e ∙ sym (append_assoc fr (c ∷ []) (lone_block ∷ []))) in
+      let same = same_from_push o.front (fr ++ c ∷ []) (code ∷ o.bytes) lone_block (grind (arith, append_assoc)) in
       grind (arith, last_of-push)
   closed_blocks-shorter true noted fr c full e =
       grind (arith, append_assoc, last_of-push (fr ++ c ∷ []) lone_block)
@@ -75,4 +74,4 @@ module _ {m f : List ℕ} {index code : ℕ} (o : IsOpenFrame f m index code) wh
       grind (arith, message_of-close, append-nil)
 
   pub encoded-of : (full : Bool) → ends_in_full o.front o.bytes ≡ full → IsEncodedFrame (closed_frame full) m
-  encoded-of full noted = encoded-by (closed_blocks full) (closed_frame-is_frame full noted) (closed_blocks-message full noted) (closed_blocks-shorter full noted)
+  encoded-of full noted = encoded-by _ (closed_frame-is_frame full noted) (closed_blocks-message full noted) (closed_blocks-shorter full noted)

@@ -9,7 +9,7 @@ use Rattle.cobs.proofs.format.LengthLemmas.{stretches-front, encoded_len-full, e
 use Rattle.cobs.proofs.format.UniqueLemmas.{len-blocks}
 use Rattle.cobs.proofs.encoding.OpenLemmas.{message_of-more}
 use Rattle.cobs_bytes.proofs.bytes.ListLemmas.{length-ones, one-nonzero, ones-nonzero}
-use Rattle.cobs.specs.Internal.Reaches.{Opened, ends_in_full}
+use Rattle.cobs.specs.Internal.Reaches.{Opened}
 
 -- the values of the nonzero bytes at the start of a message don't matter
 pub same_start : (a b t : List ℕ) → HasNoZero a → HasNoZero b → length a ≡ length b → encoded_len (a ++ t) ≡ encoded_len (b ++ t)
@@ -51,10 +51,10 @@ open_len-most code t some = grind (arith, length-append, length-ones, encoded_le
 -- the frame of a message that continues
 pub Opened-len : {slice m : List ℕ} {index next : ℕ} {full : Bool} (t : List ℕ) → (full ≡ true → t ≢ []) → Opened slice m index next full
     → encoded_len (m ++ t) ≡ index + open_len (next - index) t
-Opened-len {full = full} t more o =
+Opened-len t more o =
     let code : ℕ = length o.bytes + 1 in
     let longer = message_of-more o.front code code o.bytes t in
-    grind (arith, length-ones, len-blocks o.front code (o.bytes ++ t) o.each, same_start, ones-nonzero, ends_in_full)
+    grind (arith, length-ones, len-blocks o.front code (o.bytes ++ t) o.each, same_start, ones-nonzero)
 
 -- the length of the frame, byte by byte
 module _ (bytes : List ℕ) (i : ℕ) where
@@ -70,7 +70,7 @@ module _ (bytes : List ℕ) (i : ℕ) where
     -- a byte joins the block
     pub len-byte : (code : ℕ) → 0 < code → get_or bytes i 0 ≢ 0 → open_len code (drop i bytes) ≡ open_len (code + 1) (drop (i + 1) bytes)
     len-byte code some other =
-        rw (drop_more bytes i 0 more) (open_len-join code (get_or bytes i 0 ∷ []) (drop (i + 1) bytes) some (one-nonzero _ other))
+        rw (drop_more bytes i 0 more) (open_len-join code (get_or bytes i 0 ∷ []) _ some (one-nonzero _ other))
 
     -- a zero closes the open block
     pub len-zero : (code : ℕ) → 0 < code → get_or bytes i 0 ≡ 0 → open_len code (drop i bytes) ≡ code + (code - 1) / 254 + open_len 1 (drop (i + 1) bytes)

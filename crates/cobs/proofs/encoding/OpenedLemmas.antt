@@ -1,19 +1,18 @@
 -- Lemmas on a slice that has the open frame of a message, except the open block's code (`Opened`): nonzero bytes join
 -- the open block, and its code closes it. Such a slice follows from an open frame (`opened-of`), and the converse
 -- (`open_frame`). So the three ways in which a byte changes the output of a caller of `EncoderState` follow too.
-use Rattle.std.proofs.Common.{◌≡◌, ◌≢◌, ℕ, ◌+◌, ◌≤◌, ◌==◌, Bool, false, List, [], ◌∷◌, ◌++◌, length, drop, take, refl, sym, ap, ◌∙◌, arith, suc, length-append, length-take-le, length-take, ◌<◌, set, get_or, append-nil, append_assoc, take_at, drop_at, take_all, take-append-drop}
+use Rattle.std.proofs.Common.{◌≡◌, ◌≢◌, ℕ, ◌+◌, ◌≤◌, ◌==◌, Bool, false, List, [], ◌∷◌, ◌++◌, length, drop, take, refl, sym, ap, ◌∙◌, arith, length-append, length-take-le, length-take, ◌<◌, set, get_or, append-nil, append_assoc, take_at, drop_at, take_all, take-append-drop}
 use Rattle.std.specs.List.{concat}
 use Rattle.std.proofs.Math.ListN.{set}
 use Rattle.std.proofs.Math.Seq.{take-set-lt, take-add}
 use Rattle.std.proofs.lemmas.List.{take-take, take-set-le, drop-set-lt, set_split, drop-append-le, drop_all, drop_more, length_push, length-set, set_at, set-append_left, take-append-le}
 use Rattle.std.proofs.lemmas.List.Elements.{All-append, All-push, All-nil}
-use Rattle.cobs.specs.Grammar.{HasNoZero, IsBlock, is_full, joint, message_of, IsFrameOf, IsOpenFrame}
+use Rattle.cobs.specs.Grammar.{HasNoZero, IsBlock, joint, message_of, IsFrameOf, IsOpenFrame}
 use Rattle.cobs.proofs.encoding.OpenLemmas.{message_of-close, message_of-more, blocks-of, f-is, frame_push}
-use Rattle.cobs.proofs.format.FrameLemmas.{append-some, concat-push, last_of-push}
+use Rattle.cobs.proofs.format.FrameLemmas.{concat-push, last_of-push}
 use Rattle.cobs.specs.Internal.Reaches.{Opened, ends_in_full}
 use Rattle.std.proofs.lemmas.Grind.{common_steps}
 use Rattle.cobs.specs.OpenBlock.{OpenBlock, AgreeOutside, IsOpenOutput}
-use Rattle.cobs_bytes.proofs.bytes.ListLemmas.{one-nonzero}
 
 -- an open block with bytes is no placeholder
 not_full-more : (front : List (List ℕ)) (bytes more : List ℕ) → more ≢ [] → ends_in_full front (bytes ++ more) ≡ false
@@ -30,7 +29,7 @@ module _ {slice m : List ℕ} {index next : ℕ} {full : Bool} (o : Opened slice
   pub Opened-same : (slice' : List ℕ) → take next slice' ≡ take next slice → Opened slice' m index next full
   Opened-same slice' same =
       let le : index ≤ next = omega arith in
-      Opened-in slice' (sym (take-take index next slice' le) ∙ ap (take index) same ∙ take-take index next slice le) (ap (drop (index + 1)) same)
+      Opened-in slice' (sym (take-take index next slice' le) ∙ ap (take index) same ∙ take-take index next slice le) (grind arith)
 
   -- if the open block has no bytes, the byte in its code's place doesn't matter either
   pub Opened-same-empty : (slice' : List ℕ) → next ≡ index + 1 → take index slice' ≡ take index slice → Opened slice' m index next full
@@ -45,20 +44,20 @@ module _ {slice m : List ℕ} {index next : ℕ} {full : Bool} (o : Opened slice
       → Opened slice (m ++ more) index (next + length more) false
   Opened-join more some nonzero short fits here =
       let sum = length-append o.bytes more in
-      let all : take (next + length more) slice ≡ take next slice ++ more = rw (take-add next (length more) slice, here) refl in
-      let long : length (take next slice) ≡ next = length-take-le next slice (omega arith) in
+      let all : take (next + length more) slice ≡ take next slice ++ more = grind (arith, take-add) in
+      let long : length (take next slice) ≡ next = grind (arith, length-take-le) in
       record {
         front = o.front;
         bytes = o.bytes ++ more;
         each = o.each;
         nonzero = All-append (λ byte. byte ≢ 0) o.bytes more o.nonzero nonzero;
         few = omega arith;
-        message = rw (message_of-more o.front (length (o.bytes ++ more) + 1) (length o.bytes + 1) o.bytes more) (ap (λ x. x ++ more) o.message);
+        message = grind (arith, message_of-more);
         begins = o.begins;
         place = omega arith;
         written = o.written;
-        bytes_there = rw (all, drop-append-le (index + 1) (take next slice) more (omega arith), o.bytes_there) refl;
-        noted = sym (not_full-more o.front o.bytes more some);
+        bytes_there = grind (arith, drop-append-le);
+        noted = grind arith;
       }
 
   -- the code of the open block is written, and the block after it is open
@@ -68,23 +67,22 @@ module _ {slice m : List ℕ} {index next : ℕ} {full : Bool} (o : Opened slice
       let block : List ℕ = code ∷ o.bytes in
       let front' : List (List ℕ) = o.front ++ block ∷ [] in
       let few = o.few in
-      let one : suc index ≡ index + 1 = omega arith in
       let long : length (take next slice) ≡ next = length-take-le next slice fits in
       let wrote : take next (set slice index code) ≡ concat o.front ++ block =
-      take-set-lt next slice index code (omega arith) ∙ set_split (take next slice) index code (omega arith)
-      ∙ (rw (take-take index next slice (omega arith), o.written, one, o.bytes_there) refl) in
+      take-set-lt next slice index code (omega arith) ∙ set_split _ index code (omega arith)
+      ∙ grind (arith, take-take) in
       record {
         front = front';
         bytes = [];
         each = All-push IsBlock o.front block o.each (sym code-is, omega arith, o.nonzero);
-        nonzero = All-nil (λ byte. byte ≢ 0);
+        nonzero = All-nil _;
         few = omega arith;
-        message = rw (message_of-close front' (append-some o.front block []), last_of-push o.front block, ← code-is) (ap (λ x. x ++ joint ((length o.bytes + 1) ∷ [])) o.message);
-        begins = rw (concat-push o.front block) (omega (arith, length-append (concat o.front) block));
+        message = grind (arith, message_of-close, last_of-push);
+        begins = grind (arith, concat-push, length-append);
         place = refl;
-        written = wrote ∙ sym (concat-push o.front block);
-        bytes_there = drop_all (next + 1) (take (next + 1) (set slice index code)) (omega (arith, length-take (next + 1) (set slice index code)));
-        noted = ap is_full (sym (last_of-push o.front block));
+        written = grind (arith, concat-push);
+        bytes_there = grind (arith, drop_all, length-take);
+        noted = grind (arith, last_of-push);
       }
 
 -- FROM AN OPEN FRAME
@@ -94,20 +92,7 @@ pub opened-of : {f m slice : List ℕ} {index code next : ℕ} (o : IsOpenFrame 
     → drop (index + 1) (take next slice) ≡ o.bytes → Opened slice m index next (ends_in_full o.front o.bytes)
 opened-of o is front behind =
     let each = blocks-of o in
-    let code-is = each.1.0 in
-    record {
-      front = o.front;
-      bytes = o.bytes;
-      each = each.0;
-      nonzero = each.1.2;
-      few = omega arith;
-      message = rw (← code-is) o.message;
-      begins = o.begins;
-      place = omega arith;
-      written = front;
-      bytes_there = behind;
-      noted = refl;
-    }
+    grind arith
 
 module _ {g m : List ℕ} {state : OpenBlock} (o : IsOpenOutput g state m) where
   abbrev front : List ℕ
@@ -123,18 +108,18 @@ module _ {g m : List ℕ} {state : OpenBlock} (o : IsOpenOutput g state m) where
   output-is = (rw (f-is o.1) at o.2.1) ∙ set_at front state.code o.1.bytes o.2.0 state.index begins
 
   pub length-IsOpenOutput : length g ≡ next
-  length-IsOpenOutput = omega (arith, (blocks-of o.1).1, ap length output-is ∙ length-append front (o.2.0 ∷ o.1.bytes))
+  length-IsOpenOutput = grind (arith, common_steps, output-is)
 
   pub index-IsOpenOutput : state.index < length g
   index-IsOpenOutput = grind (arith, common_steps, length-IsOpenOutput)
 
   pub output-opened : Opened g m state.index next (ends_in_full o.1.front o.1.bytes)
   output-opened =
-      let one : length (front ++ o.2.0 ∷ []) ≡ state.index + 1 = length_push front o.2.0 ∙ omega arith in
+      let one : length (front ++ o.2.0 ∷ []) ≡ state.index + 1 = grind (arith, length_push) in
       let all = take_all next g (omega (arith, length-IsOpenOutput)) in
       opened-of o.1 refl
-      (ap (take state.index) output-is ∙ take_at front (o.2.0 ∷ o.1.bytes) state.index begins)
-      (ap (drop (state.index + 1)) (all ∙ output-is ∙ sym (append_assoc front (o.2.0 ∷ []) o.1.bytes)) ∙ drop_at (front ++ o.2.0 ∷ []) o.1.bytes (state.index + 1) one)
+      (grind (arith, output-is, take_at))
+      (ap (drop (state.index + 1)) (grind (arith, output-is, append_assoc)) ∙ drop_at (front ++ o.2.0 ∷ []) o.1.bytes _ one)
 
 -- TO AN OPEN FRAME
 
@@ -160,18 +145,17 @@ module _ {slice m : List ℕ} {index next : ℕ} {full : Bool} (o : Opened slice
 
   pub open_slice : next ≤ length slice → AgreeOutside index (concat o.front ++ code ∷ o.bytes) (take next slice)
   open_slice fits =
-      let begins' = o.begins in
       let front_long = length-take-le next slice fits in
       let x : ℕ = get_or (take next slice) index 0 in
       let split = take-append-drop index (take next slice) in
       let front = take-take index next slice (omega arith) in
       let rest = drop_more (take next slice) index 0 (omega arith) in
-      let begins : take next slice ≡ concat o.front ++ x ∷ o.bytes = cc (o.written, o.bytes_there) in
-      (x, begins ∙ sym (set_at (concat o.front) code o.bytes x index (sym begins')))
+      let begins : take next slice ≡ concat o.front ++ x ∷ o.bytes = cc o.written in
+      (x, begins ∙ sym (grind (arith, set_at)))
 
   opened-output : code < 255 → length slice ≡ next → IsOpenOutput slice (record { index = index; code = code }) m
   opened-output short long =
-      let all : take next slice ≡ slice = take_all next slice (omega arith) in
+      let all : take next slice ≡ slice = grind (arith, take_all) in
       (_, open_frame short, rw all at (open_slice (omega arith)))
 
 -- ONE MORE BYTE
@@ -190,7 +174,7 @@ module _ {g m : List ℕ} {state : OpenBlock} (o : IsOpenOutput g state m) where
       let code' = length-set g state.index state.code in
       let closed = Opened-close (output-opened o) state.code (omega arith) refl in
       let zero : joint (state.code ∷ []) ≡ 0 ∷ [] = grind arith in
-      let out = Opened-same-empty closed (set g state.index state.code ++ x ∷ []) refl (take-append-le _ _ _ (omega arith)) in
+      let out = Opened-same-empty closed _ refl (take-append-le _ _ _ (omega arith)) in
       rw zero at (opened-output out 1 refl (omega arith) (length_push _ x ∙ omega arith))
 
   module _ (byte : ℕ) (nonzero : byte ≢ 0) where
@@ -199,11 +183,11 @@ module _ {g m : List ℕ} {state : OpenBlock} (o : IsOpenOutput g state m) where
         let long = length-IsOpenOutput o in
         let longer = length_push g byte in
         let same = Opened-same (output-opened o) (g ++ byte ∷ []) (take-append-le _ _ _ (omega arith)) in
-        Opened-join same (byte ∷ []) (λ e. cc) (one-nonzero byte nonzero) (omega arith) (omega arith) (ap (take 1) (drop_at g (byte ∷ []) _ long))
+        grind (arith, Opened-join, drop_at)
 
     -- a nonzero byte joins the block
     pub open-more : state.code ≢ 254 → IsOpenOutput (g ++ byte ∷ []) (record { index = state.index; code = state.code + 1 }) (m ++ byte ∷ [])
-    open-more room = opened-output joins (state.code + 1) (omega arith) (omega arith) (length_push g byte ∙ omega (arith, length-IsOpenOutput o))
+    open-more room = opened-output joins _ (omega arith) (omega arith) (length_push g byte ∙ omega (arith, length-IsOpenOutput o))
 
     -- the 254th byte fills the block
     pub open-full : (x : ℕ) → state.code ≡ 254 → IsOpenOutput (set g state.index 255 ++ byte ∷ x ∷ []) (record { index = state.index + 255; code = 1 }) (m ++ byte ∷ [])
@@ -212,10 +196,10 @@ module _ {g m : List ℕ} {state : OpenBlock} (o : IsOpenOutput g state m) where
         let longer = length_push g byte in
         let sum : next o + 1 ≡ state.index + 255 = omega arith in
         let closed = Opened-close joins 255 (omega arith) (sym sum) in
-        let out = Opened-same-empty closed (set g state.index 255 ++ byte ∷ x ∷ []) refl (
-        let coded = set-append_left g (byte ∷ []) state.index 255 (index-IsOpenOutput o) in
+        let out = Opened-same-empty closed _ refl (
+        let coded = set-append_left g _ state.index 255 (index-IsOpenOutput o) in
         let long' = length-set g state.index 255 in
         let long_push = length_push (set g state.index 255) byte in
-        ap (take _) (sym (append_assoc (set g state.index 255) (byte ∷ []) (x ∷ []))) ∙ take-append-le _ _ _ (omega arith) ∙ ap (take _) (sym coded)
+        ap (take _) (sym (append_assoc _ (byte ∷ []) (x ∷ []))) ∙ take-append-le _ _ _ (omega arith) ∙ ap (take _) (sym coded)
         ) in
-        rw (sum, append-nil) at (opened-output out 1 refl (omega arith) (length-append (set g state.index 255) (byte ∷ x ∷ []) ∙ omega (arith, length-set g state.index 255)))
+        rw (sum, append-nil) at (opened-output out 1 refl (omega arith) (grind (arith, length-append, length-set)))

@@ -1,7 +1,7 @@
 -- Lemmas on how many bytes of a source the core of the encoder has taken, and on how it continues: nonzero bytes join
 -- the open block, and a zero or the 254th byte closes it. By `OpenedLemmas` for the slice, and by `OpenLenLemmas` for
 -- the end of the frame.
-use Rattle.std.proofs.Common.{◌≡◌, ◌≢◌, ℕ, ◌+◌, ◌-◌, ◌<◌, ◌≤◌, Bool, true, false, List, ◌∷◌, ◌++◌, length, drop, take, get_or, replicate, zero, suc, refl, sym, ap, ◌∙◌, arith, inl, inr, ◌⊎◌, append-nil, append_assoc, length-take-le, length-drop}
+use Rattle.std.proofs.Common.{◌≡◌, ◌≢◌, ℕ, ◌+◌, ◌-◌, ◌<◌, ◌≤◌, Bool, true, false, List, ◌∷◌, ◌++◌, length, drop, take, get_or, replicate, zero, suc, refl, sym, arith, inl, inr, ◌⊎◌, append-nil, append_assoc, length-take-le, length-drop}
 use Rattle.std.proofs.Math.ListN.{set}
 use Rattle.std.proofs.Math.Seq.{take-add}
 use Rattle.std.proofs.lemmas.Bool.{cases_eq}
@@ -62,7 +62,7 @@ module _ {s : Start} {slice : List ℕ} {pos index next : ℕ} {P : Bool → Typ
         by_count (inr other) m t =
             let l = long in
             let least' = least in
-            let joined = Opened-join t.2 bytes (λ e. other (omega (arith, ap length e))) nonzero (omega arith) (omega arith) (rw l here) in
+            let joined = Opened-join t.2 bytes (grind arith) nonzero (omega arith) (omega arith) (rw l here) in
             grind (arith, append_assoc, take-add)
 
     -- a zero closes the open block
@@ -76,7 +76,7 @@ module _ {s : Start} {slice : List ℕ} {pos index next : ℕ} {P : Bool → Typ
           short = omega arith;
           within = omega arith;
           end = grind arith;
-          rest = drop-set-lt (whole_end s) slice index (next - index) (omega arith) ∙ r.rest;
+          rest = grind (arith, drop-set-lt);
           taken = λ m h.
               let t = r.taken m h in
               let closed = Opened-close t.2 (next - index) (omega arith) (omega arith) in
@@ -91,7 +91,7 @@ module _ {s : Start} {slice : List ℕ} {pos index next : ℕ} {P : Bool → Typ
 
   pub Reaches-full : {Q : Bool → Type 0} → pos < length s.source → next ≡ index + 255 → whole_end s ≤ length slice → Q true → Reaches s (set slice index 255) pos next (next + 1) Q
   Reaches-full more full fits is_full =
-      grind (arith, drop-set-lt, full-taken, open_len-full (drop pos s.source) (λ e. omega (arith, length-drop pos s.source, ap length e)))
+      grind (arith, drop-set-lt, full-taken, open_len-full (drop pos s.source) (grind (arith, length-drop)))
 
   -- if all bytes are taken, the frame ends with the open block
   pub ends : pos ≡ length s.source → whole_end s ≡ next
@@ -109,12 +109,12 @@ alike-first n pos b xs within alike = let left = drop_more xs pos 0 (omega arith
 -- after a zero, n more zeros close n blocks without bytes, whose codes 1 are already in place
 pub Reaches-ones : (n : ℕ) {s : Start} {slice : List ℕ} {pos index : ℕ} → Reaches s slice pos index (index + 1) IsNotFull → pos + n ≤ length s.source → whole_end s ≤ length slice
     → take n (drop pos s.source) ≡ replicate n 0 → take (suc n) (drop index slice) ≡ replicate (suc n) 1 → Reaches s slice (pos + n) (index + n) (index + n + 1) IsNotFull
-Reaches-ones zero r within fits zeros ones = Reaches-at refl (omega arith) (omega arith) (omega arith) (λ full p. p) r
+Reaches-ones zero r within fits zeros ones = grind arith
 Reaches-ones (suc n) {s} {slice} {pos} {index} r within fits zeros ones =
     let room = least r in
     let zero = alike-first n pos 0 s.source within zeros in
     let one = alike-first (suc n) index 1 slice (omega arith) ones in
     let code : index + 1 - index ≡ get_or slice index 0 = omega arith in
-    let same : set slice index (index + 1 - index) ≡ slice = ap (set slice index) code ∙ set-get_or slice index 0 in
+    let same : set slice index (index + 1 - index) ≡ slice = grind (arith, set-get_or) in
     let closed = rw same at (Reaches-zero r {Q = IsNotFull} fits (omega arith) zero.0 (omega arith) refl) in
     Reaches-at refl (omega arith) (omega arith) (omega arith) (λ full p. p) (Reaches-ones n closed (omega arith) fits zero.1 one.1)

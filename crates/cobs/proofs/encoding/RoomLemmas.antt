@@ -1,7 +1,6 @@
 -- Lemmas on the length of the frame from its open block on, counted run by run, as `fits` counts it. The bytes of a run
 -- make the open block's code greater, also beyond 255, and `open_len-zero` counts the run's blocks at the zero after it.
 use Rattle.std.proofs.Common.{◌≡◌, ◌≢◌, ℕ, ◌+◌, ◌<◌, ◌≤◌, List, [], ◌∷◌, ◌++◌, length, drop, get_or, arith, length-take-le, length-drop, take-append-drop}
-use Rattle.std.proofs.lemmas.Bool.{cases_eq}
 use Rattle.std.proofs.lemmas.List.{drop-drop, drop_more}
 use Rattle.cobs.specs.Length.{encoded_len, open_len}
 use Rattle.cobs.proofs.encoding.OpenLenLemmas.{open_len-end, open_len-join, open_len-least, open_len-most, open_len-zero}
@@ -17,7 +16,7 @@ open_len-byte code b t some other = open_len-join code (b ∷ []) t some (one-no
 -- bytes that can't fill a block, and the zero after them
 len-skip : (code : ℕ) (bytes t : List ℕ) → 0 < code → code + length bytes < 255 → open_len code (bytes ++ 0 ∷ t) ≡ code + length bytes + open_len 1 t
 len-skip code [] t some few = omega (arith, open_len-zero code t some)
-len-skip code (b ∷ bytes) t some few = grind (arith, open_len-zero, open_len-byte, (len-skip 1 bytes t), (len-skip (code + 1) bytes t))
+len-skip code (b ∷ bytes) t some few = grind (arith, open_len-zero, open_len-byte, len-skip 1 bytes t, len-skip (code + 1) bytes t)
 
 -- the zero at `read + k` is the last zero of those bytes that could fill the open block
 pub skipped : (source : List ℕ) (read code k : ℕ) → 0 < code → read + k < length source → code + k < 255 → get_or source (read + k) 0 ≡ 0
@@ -28,8 +27,8 @@ skipped source read code k some more few is =
 -- more bytes after a message don't make its frame shorter
 open_len-longer : (code : ℕ) (m d : List ℕ) → 0 < code → open_len code m ≤ open_len code (m ++ d)
 open_len-longer code [] [] some = omega arith
-open_len-longer code [] (b ∷ d) some = grind (arith, open_len-end, open_len-zero, open_len-byte, (open_len-longer (code + 1) [] d))
-open_len-longer code (b ∷ m) d some = grind (arith, cases_eq, open_len-zero, open_len-byte, (open_len-longer 1 m d), (open_len-longer (code + 1) m d))
+open_len-longer code [] (b ∷ d) some = grind (arith, open_len-end, open_len-zero, open_len-byte, open_len-longer (code + 1) [] d)
+open_len-longer code (b ∷ m) d some = grind (arith, open_len-zero, open_len-byte, open_len-longer 1 m d, open_len-longer (code + 1) m d)
 
 pub encoded_len-longer : (m d : List ℕ) → encoded_len m ≤ encoded_len (m ++ d)
 encoded_len-longer m d = open_len-longer 1 m d (omega arith)

@@ -1,13 +1,12 @@
 -- Lemmas on how the core of the encoder takes a source, step by step: `front-taken` derives `TakesFront` from
 -- `Reaches`, and `front-next` joins two steps.
-use Rattle.std.proofs.Common.{◌≡◌, ◌≢◌, get_or, ℕ, ◌+◌, ◌<◌, ◌≤◌, Bool, true, false, List, [], ◌∷◌, ◌++◌, length, drop, take, refl, sym, ap, ◌∙◌, inl, inr, arith, append-nil, append_assoc, length-drop, take_all}
+use Rattle.std.proofs.Common.{◌≡◌, ◌≢◌, get_or, ℕ, ◌+◌, ◌<◌, ◌≤◌, Bool, true, false, List, [], ◌∷◌, ◌++◌, length, drop, take, refl, ◌∙◌, inl, inr, arith, append-nil, append_assoc, length-drop, take_all}
 use Rattle.std.proofs.Math.ListN.{set}
 use Rattle.std.proofs.Math.Seq.{take-add}
 use Rattle.std.proofs.lemmas.Bool.{cases_Bool, cases_lt}
 use Rattle.std.proofs.lemmas.List.{drop-drop, drop-set, drop-set-lt, drop_all, drop_more, length-set, take-set-le, take_rest}
 use Rattle.std.proofs.lemmas.Grind.{common_steps}
 use Rattle.cobs.specs.Grammar.{HasNoZero}
-use Rattle.cobs_bytes.proofs.bytes.ListLemmas.{one-nonzero}
 use Rattle.cobs.specs.Length.{encoded_len, open_len}
 use Rattle.cobs.specs.OpenBlock.{Reached, CobsEncoderAfter, IsPlaceIn, end_after, end_of, next_of, place_at}
 use Rattle.cobs.specs.Internal.Taking.{TakesFront}
@@ -29,12 +28,12 @@ next-least r source code some = grind (arith, open_len-least)
 pub reaches-start : {source old : List ℕ} {r : Reached} → 0 < length source → 0 < r.block.code → r.block.code < 255
     → Reaches (start_with old r source) old 0 r.block.index (next_of r) (λ _. Unit {0})
 unfolding HadTaken
-reaches-start {source} {old} {r} some code short = grind (arith, append-nil, from_after)
+reaches-start some code short = grind (arith, append-nil, from_after)
 
 -- a byte is written after the open block's bytes
 module _ {s : Start} {slice : List ℕ} {read index next : ℕ} {P : Bool → Type 0} (byte : ℕ) (more : read < length s.source) (r : Reaches s slice read index next P) where
   pub written : Reaches s (set slice next byte) read index next P
-  written = grind (arith, common_steps, drop-set-lt)
+  written = grind (arith, common_steps)
 
   -- a byte that isn't a zero joins the open block
   pub joined : get_or s.source read 0 ≡ byte → byte ≢ 0 → next < index + 255 → whole_end s ≤ length slice → Reaches s (set slice next byte) (read + 1) index (next + 1) IsNotFull
@@ -43,8 +42,8 @@ module _ {s : Start} {slice : List ℕ} {read index next : ℕ} {P : Bool → Ty
       let long = length-set slice next byte in
       let one : take 1 (drop read s.source) ≡ byte ∷ [] = grind (arith, drop_more) in
       let here : take 1 (drop next (set slice next byte)) ≡ take 1 (drop read s.source) = grind (arith, drop-set) in
-      let nonzero : HasNoZero (take 1 (drop read s.source)) = rw one (one-nonzero byte other) in
-      Reaches-join written (omega arith) 1 (omega arith) (omega arith) nonzero here (λ full z p. absurd (omega arith)) (λ z. refl)
+      let nonzero : HasNoZero (take 1 (drop read s.source)) = rw one (grind arith) in
+      Reaches-join written (omega arith) 1 (omega arith) (omega arith) nonzero here (grind arith) (λ z. refl)
 
 -- the end of a step
 module _ {source old slice : List ℕ} {r r' : Reached} (fits : end_after r source ≤ length slice) where
@@ -73,26 +72,22 @@ module _ {source old slice : List ℕ} {r r' : Reached} (fits : end_after r sour
       let long = length-set slice index 255 in
       let e = ends s last in
       rw is (record {
-        place = record { some = omega arith; not_full = omega arith; fits = omega arith };
+        place = grind arith;
         after = λ m h. to_after 1 refl (omega arith) (omega arith) (full-taken s refl (omega arith) m h);
-        end = rw (drop_all pos source (omega arith)) (sym e);
-        rest = rw (drop-set-lt (end_after r source) slice index 255 (omega arith)) s.rest;
+        end = grind arith;
+        rest = grind (arith, drop-set-lt);
       })
 
 -- a byte filled the open block
 pub front-filled : {source old slice : List ℕ} {r r' : Reached} {pos index next code : ℕ} {P : Bool → Type 0} → end_after r source ≤ length slice
     → next ≡ index + 255 → Reaches (start_with old r source) slice pos index next P
     → code ≡ 1 → r' ≡ place_at next code true → TakesFront old r source pos (set slice index 255) r'
-front-filled {source} {old} {slice} {r} {r'} {pos} {index} {next} fits full s one is =
+front-filled {source} {old} {slice} {r} {r'} {pos} {index} fits full s one is =
     let long = length-set slice index 255 in
     elim (cases_lt pos (length source)) [
-      | inl more ↦ front-taken (omega arith) (Reaches-full s {Q = λ noted. noted ≡ true} more full fits refl) (omega arith) (λ all. absurd (omega arith)) (omega arith) is
-      | inr none ↦ (let within = s.within in front-full fits (Reaches-at refl refl refl full (λ full p. p) s) (omega arith) (rw (full, one) at is))
+      | inl more ↦ front-taken (omega arith) (Reaches-full s more full fits refl) (omega arith) (grind arith) (omega arith) is
+      | inr none ↦ front-full fits (Reaches-at refl refl refl full (λ full p. p) s) (omega arith) (rw (full, one) at is)
     ]
-
--- a step that takes no byte
-pub front-none : (slice : List ℕ) (r : Reached) (source : List ℕ) → IsPlaceIn (length slice) r → TakesFront slice r source 0 slice r
-front-none slice r source p = grind (arith, append-nil)
 
 -- a step, and then another step on the rest of the source
 module _ {slice slice' source left : List ℕ} {r r' : Reached} (n : ℕ) (is : left ≡ drop n source) (a : TakesFront slice r source n slice' r') where
@@ -101,11 +96,7 @@ module _ {slice slice' source left : List ℕ} {r r' : Reached} (n : ℕ) (is : 
   left-end = grind arith
 
   pub front-next : {slice'' : List ℕ} {r'' : Reached} (k : ℕ) → TakesFront slice' r' left k slice'' r'' → TakesFront slice r source (n + k) slice'' r''
-  front-next {slice''} {r''} k b = grind (arith, take-add, append_assoc, drop-drop)
-
-  -- after the second step the whole source is taken
-  pub front-last : {slice'' : List ℕ} {r'' : Reached} → n ≤ length source → TakesFront slice' r' left (length left) slice'' r'' → TakesFront slice r source (length source) slice'' r''
-  front-last le b = let sum : n + length left ≡ length source = omega (arith, length-drop n source, ap length is) in rw (← sum) (front-next (length left) b)
+  front-next k b = grind (arith, take-add, append_assoc, drop-drop)
 
 -- the whole source is taken
 module _ {slice slice' source : List ℕ} {r r' : Reached} (t : TakesFront slice r source (length source) slice' r') where

@@ -1,14 +1,14 @@
 -- Worked cases of the definitions and of the laws. They show that each law says something about some frame, and that
 -- its premises are needed.
 use Rattle.std.proofs.Common.{◌≡◌, ◌≢◌, ℕ, List, [], ◌∷◌, ◌++◌, replicate, map, refl, arith, true, All, Some, None, sym, subst, ⊎_elim}
-use Rattle.std.proofs.lemmas.List.Elements.{All-cons, All-nil, All-head, All-replicate}
+use Rattle.std.proofs.lemmas.List.Elements.{All-head, All-replicate}
 use Rattle.std.proofs.lemmas.Bool.{true≢false}
 use Rattle.cobs.specs.Grammar.{IsBlock, IsFrameOf, Reads, IsFrame, IsCanonical, IsEncodedFrame, lone_block}
 use Rattle.cobs.specs.Length.{runs, encoded_len, last_run}
 use Rattle.cobs.specs.Sentinel.{xor_each}
 use Rattle.cobs.specs.Piece.{parts, parts_after, last_part, is_whole, output, kept_output}
 use Rattle.cobs.specs.Stream.{Message, Broken, TooLong, outcome_of, first_piece, head}
-use Rattle.cobs.proofs.format.GrammarLemmas.{block-frame, frame-cons, lone_block-is_block, one_frame, Reads-cons, IsCanonical-block, IsCanonical-cons}
+use Rattle.cobs.proofs.format.GrammarLemmas.{block-frame, one_frame, Reads-cons, IsCanonical-block, IsCanonical-cons}
 use Rattle.cobs.proofs.format.FrameLemmas.{frame_whole, parts-frame}
 use Rattle.cobs.proofs.format.UniqueLemmas.{one_encoded}
 use Rattle.cobs.proofs.format.EnumerationLemmas.{all_frames}
@@ -27,10 +27,10 @@ lengths_before_zero = refl
 
 -- a zero between two runs
 first_block : IsBlock (3 ∷ 10 ∷ 11 ∷ [])
-first_block = grind (arith, All-cons, All-nil)
+first_block = grind arith
 
 last_block : IsBlock (2 ∷ 12 ∷ [])
-last_block = grind (arith, All-cons, All-nil)
+last_block = grind arith
 
 frame_between : IsEncodedFrame (3 ∷ 10 ∷ 11 ∷ 2 ∷ 12 ∷ []) (10 ∷ 11 ∷ 0 ∷ 12 ∷ [])
 frame_between = record {
@@ -46,11 +46,11 @@ ones_block : IsBlock block_of_ones
 ones_block = (refl, omega arith, All-replicate (λ byte. byte ≢ 0) 254 1 (λ e. omega arith))
 
 longer_blocks : IsFrameOf (block_of_ones ++ lone_block) (block_of_ones ∷ lone_block ∷ [])
-longer_blocks = grind (arith, frame-cons, block_of_ones, ones_block, block-frame, lone_block-is_block)
+longer_blocks = grind (arith, ones_block)
 
 -- the block of the 254 ones, with the lone block after it, reads as the 254 ones too
 longer_reads : Reads (block_of_ones ++ lone_block) (replicate 254 1)
-longer_reads = grind (arith, block_of_ones, longer_blocks)
+longer_reads = grind (arith, longer_blocks)
 
 -- the block of the 254 ones with the lone block after it isn't canonical
 longer_not_canonical : IsCanonical (block_of_ones ++ lone_block) → ⊥
@@ -80,7 +80,7 @@ beyond_no_frame : IsFrame beyond_bytes → ⊥
 unfolding parts parts_after
 beyond_no_frame (m, r) =
     let each = subst (All IsBlock) (sym (parts-frame beyond_bytes r.blocks r.frame)) r.frame.each in
-    grind (arith, All-head, beyond_bytes)
+    grind (arith, All-head)
 
 -- ALL FRAMES OF A MESSAGE
 
@@ -93,7 +93,7 @@ last_runs = refl
 one_frame_between : (f : List ℕ) → Reads f (10 ∷ 11 ∷ 0 ∷ 12 ∷ []) → f ≡ 3 ∷ 10 ∷ 11 ∷ 2 ∷ 12 ∷ []
 one_frame_between f r = ⊎_elim
     (λ e. one_encoded f (3 ∷ 10 ∷ 11 ∷ 2 ∷ 12 ∷ []) (10 ∷ 11 ∷ 0 ∷ 12 ∷ []) e frame_between)
-    (λ w. absurd (let x : last_run (10 ∷ 11 ∷ 0 ∷ 12 ∷ []) ≡ 1 = refl in let rem = w.0.1 in omega arith))
+    (grind arith)
     ((all_frames f (10 ∷ 11 ∷ 0 ∷ 12 ∷ [])).0 r)
 
 -- ANOTHER SENTINEL

@@ -1,13 +1,11 @@
 -- All frames of a message: its encoded frame and, if the message ends in a full run, that frame followed by the lone
 -- block. An encoder reaches an open frame of each message (`after_all`), so each message has an encoded frame, and every
 -- other frame of the message has the same blocks and the lone block (`same_blocks`).
-use Rattle.std.proofs.Common.{◌≡◌, ◌≢◌, ℕ, zero, suc, ◌+◌, ◌%◌, ◌<◌, ◌↔◌, List, [], ◌∷◌, ◌++◌, length, map, refl, sym, ap, ◌∙◌, subst, arith, append-nil, append_assoc, length-append, inl, inr, ⊎_elim}
-use Rattle.std.specs.List.{concat}
+use Rattle.std.proofs.Common.{◌≡◌, ◌≢◌, ℕ, zero, suc, ◌+◌, ◌%◌, ◌<◌, ◌↔◌, List, [], ◌∷◌, ◌++◌, length, map, refl, ap, ◌∙◌, arith, append-nil, append_assoc, length-append, inl, inr, ⊎_elim}
 use Rattle.std.proofs.lemmas.List.Folds.{concat-append}
 use Rattle.std.proofs.lemmas.List.{length_push}
-use Rattle.std.proofs.lemmas.Bool.{cases_eq, eqb-true, eqb-false}
 use Rattle.cobs.specs.Stream.{stretches}
-use Rattle.cobs.specs.Grammar.{is_full, IsFull, joint, lone_block, last_of, IsOpenFrame, Reads, IsEncodedFrame}
+use Rattle.cobs.specs.Grammar.{IsFull, joint, lone_block, last_of, IsOpenFrame, Reads, IsEncodedFrame}
 use Rattle.cobs.specs.Length.{full_blocks, last_number, EndsInFullRun, encoded_len}
 use Rattle.cobs.specs.OpenBlock.{EncoderAfter, OpenBlock, next_open}
 use Rattle.cobs.proofs.encoding.OpenLemmas.{IsOpenFrame-start, encoded-of, message_of-more}
@@ -15,7 +13,7 @@ use Rattle.cobs.proofs.encoding.OpenedLemmas.{open-full, open-more, open-zero}
 use Rattle.cobs.specs.Laws.{IsFrameFor}
 use Rattle.cobs.proofs.format.FrameLemmas.{last_of-push}
 use Rattle.cobs.proofs.format.GrammarLemmas.{lone_block-reads, shorter_end}
-use Rattle.cobs.proofs.format.LengthLemmas.{encoded_len-last, encoded_len-run, some_stretch}
+use Rattle.cobs.proofs.format.LengthLemmas.{encoded_len-short, encoded_len-run, some_stretch}
 use Rattle.cobs.proofs.format.JoinLemmas.{Reads-append}
 use Rattle.cobs.proofs.format.UniqueLemmas.{IsEncodedFrame-shorter, len-blocks, length-encoded, same_blocks}
 
@@ -44,7 +42,7 @@ ends_in_full g m e =
     let end = shorter_end r.blocks r.frame.some r.frame.each (IsEncodedFrame-shorter g m e) in
     let long = len-blocks end.front end.code end.bytes end.each end.apart in
     let longer = len-blocks end.front end.code (end.bytes ++ 0 ∷ []) end.each (λ full e. omega (arith, ap length e, length-append end.bytes (0 ∷ []))) in
-    grind (arith, full_run-len, message_of-more, encoded_len-last, encoded_len-run, last_of-push, eqb-true, eqb-false)
+    grind (arith, full_run-len, message_of-more, encoded_len-short, encoded_len-run, last_of-push)
 
 -- EACH MESSAGE HAS AN ENCODED FRAME
 
@@ -54,7 +52,7 @@ EncoderAfter-push state m zero (f, o) = let r = open-zero (f, o, (0, refl)) 0 in
 EncoderAfter-push state m (suc b) (f, o) = ⊎_elim
     (λ (full : state.code ≡ 254). grind (arith, open-full (f, o, (0, refl)) (suc b) (λ e. omega arith) 0 full))
     (λ (room : state.code ≢ 254). grind (arith, open-more (f, o, (0, refl)) (suc b) (λ e. omega arith) room))
-    (cases_eq state.code 254)
+    (grind arith)
 
 after_all : (more m : List ℕ) (state : OpenBlock) → EncoderAfter state m → (next : OpenBlock) × EncoderAfter next (m ++ more)
 after_all [] m state h = grind (arith, append-nil)
@@ -72,10 +70,10 @@ frames_of : (f m : List ℕ) → Reads f m → IsFrameFor f m
 frames_of f m r =
     let (g, e) = encoded_frame m in
     let s = e.reads in
-    elim (same_blocks r.blocks s.blocks r.frame.some s.frame.some r.frame.each s.frame.each (IsEncodedFrame-shorter g m e) (sym r.message ∙ s.message)) [
-      | inl same ↦ inl (subst (λ x. IsEncodedFrame x m) (s.frame.whole ∙ sym (ap concat same) ∙ sym r.frame.whole) e)
+    elim (same_blocks r.blocks s.blocks r.frame.some s.frame.some r.frame.each s.frame.each (IsEncodedFrame-shorter g m e) (grind arith)) [
+      | inl same ↦ grind arith
       | inr (front, block, full, is, longer) ↦ inr (
-        (ends_in_full g m e).0 (rw is (ap is_full (last_of-push front block) ∙ full)),
+        (ends_in_full g m e).0 (grind (arith, last_of-push)),
         (g, e, grind (arith, concat-append, append_assoc)),
       )
     ]
@@ -102,7 +100,7 @@ abbrev open_reads : (f m : List ℕ) (index code : ℕ) → IsOpenFrame f m inde
 open_reads f m index code o = record { blocks = o.front ++ (code ∷ o.bytes) ∷ []; frame = o.frame; message = o.message }
 
 pub open_shorter : (f m : List ℕ) (index code : ℕ) → IsOpenFrame f m index code → (EndsInFullRun m → ⊥) → IsEncodedFrame f m
-open_shorter f m index code o other = ⊎_elim (λ e. e) (λ w. absurd (other w.0)) (frames_of f m (open_reads f m index code o))
+open_shorter f m index code o other = ⊎_elim (λ e. e) (grind arith) (frames_of f m (open_reads f m index code o))
 
 pub open_longer : (f m : List ℕ) (index code : ℕ) → IsOpenFrame f m index code → EndsInFullRun m → (g : List ℕ) × IsEncodedFrame g m × (f ≡ g ++ lone_block)
 open_longer f m index code o x = ⊎_elim

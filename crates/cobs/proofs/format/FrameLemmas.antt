@@ -94,10 +94,10 @@ blocks_behind n [] h below whole = All-nil IsBlock
 blocks_behind (suc n) (x ∷ p) h below whole = blocks_behind n p (All-tail (λ b. b ≢ 0) x p h) (All-tail (λ b. b < 256) x p below) whole
 blocks_behind zero (c ∷ p) h below whole =
     let some : c ≢ 0 = All-head (λ b. b ≢ 0) c p h in
-    let fits : c < 256 = All-head (λ b. b < 256) c p below in
+    let fits : c < 256 = grind (arith, All-head) in
     let rest = blocks_behind (c - 1) p (All-tail (λ b. b ≢ 0) c p h) (All-tail (λ b. b < 256) c p below) in
     let nonzero = All-take (λ b. b ≢ 0) (c - 1) p (All-tail (λ b. b ≢ 0) c p h) in
-    grind (arith, parts_after-past, length-take, All-nil)
+    grind (arith, parts_after-past, length-take)
 
 pub blocks_of_whole : (p : List ℕ) → HasNoZero p → All (λ b. b < 256) p → IsWhole p → All IsBlock (parts p)
 unfolding parts last_part is_whole
@@ -107,10 +107,10 @@ blocks_of_whole (c ∷ p) h below whole = grind (arith, blocks_behind)
 -- A FRAME READS AS ITS OUTPUT
 
 concat_nonzero : (blocks : List (List ℕ)) → All IsBlock blocks → HasNoZero (concat blocks)
-concat_nonzero [] h = All-nil (λ b. b ≢ 0)
+concat_nonzero [] h = All-nil _
 concat_nonzero (block ∷ blocks) h =
     let is = All-head IsBlock block blocks h in
-    All-append (λ b. b ≢ 0) block (concat blocks) (grind arith) (concat_nonzero blocks (All-tail IsBlock block blocks h))
+    All-append (λ b. b ≢ 0) block _ (grind arith) (concat_nonzero blocks (All-tail IsBlock block blocks h))
 
 concat_some : (blocks : List (List ℕ)) → blocks ≢ [] → All IsBlock blocks → concat blocks ≢ []
 concat_some [] some h = grind arith
@@ -146,8 +146,8 @@ reads_output f some nonzero below whole = grind (arith, parts-some, blocks_of_wh
 -- a property of all elements of two lists end to end holds for each of the two lists
 pub All-apart : {X : Type 0} (P : X → Type 0) (xs ys : List X) → All P (xs ++ ys) → All P xs × All P ys
 All-apart P xs ys h = (
-  subst (All P) (take_at xs ys (length xs) refl) (All-take P (length xs) (xs ++ ys) h),
-  subst (All P) (drop_at xs ys (length xs) refl) (All-drop P (length xs) (xs ++ ys) h),
+  subst (All P) (grind (arith, take_at)) (All-take P (length xs) _ h),
+  subst (All P) (grind (arith, drop_at)) (All-drop P (length xs) _ h),
 )
 
 -- the code of a block is below 256, so if its bytes are, the whole block is
@@ -155,12 +155,12 @@ block_bytes : (block : List ℕ) → IsBlock block → All (λ b. b < 256) (byte
 block_bytes block h e = grind arith
 
 blocks_bytes : (blocks : List (List ℕ)) → All IsBlock blocks → All (λ b. b < 256) (message_of blocks) → All (λ b. b < 256) (concat blocks)
-blocks_bytes [] h below = All-nil (λ b. b < 256)
+blocks_bytes [] h below = All-nil _
 blocks_bytes (block ∷ []) h below = grind (arith, append-nil, block_bytes, All-head)
 blocks_bytes (block ∷ next ∷ blocks) h below =
-    let apart = All-apart (λ b. b < 256) (bytes_of block ++ joint block) (message_of (next ∷ blocks)) below in
-    All-append (λ b. b < 256) block (concat (next ∷ blocks))
-    (block_bytes block (All-head IsBlock block (next ∷ blocks) h) (All-apart (λ b. b < 256) (bytes_of block) (joint block) apart.0).0)
+    let apart = All-apart (λ b. b < 256) _ (message_of (next ∷ blocks)) below in
+    All-append (λ b. b < 256) block _
+    (block_bytes block (grind (arith, All-head)) (All-apart (λ b. b < 256) _ (joint block) apart.0).0)
     (blocks_bytes (next ∷ blocks) (All-tail IsBlock block (next ∷ blocks) h) apart.1)
 
 pub frame_bytes : (f m : List ℕ) → Reads f m → All (λ b. b < 256) m → All (λ b. b < 256) f

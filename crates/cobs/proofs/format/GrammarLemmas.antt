@@ -59,7 +59,7 @@ shorter_end ((c ∷ a) ∷ d ∷ ds) some each shorter =
       front = b ∷ r.front;
       code = r.code;
       bytes = r.bytes;
-      is = ap (λ l. b ∷ l) r.is;
+      is = grind arith;
       each = grind (arith, All-head);
       last = r.last;
       apart = by_front r.front r.is r.last r.apart;
@@ -67,7 +67,7 @@ shorter_end ((c ∷ a) ∷ d ∷ ds) some each shorter =
   where
     by_front : (front : List (List ℕ)) {code : ℕ} {bytes : List ℕ} → d ∷ ds ≡ front ++ (code ∷ bytes) ∷ [] → IsBlock (code ∷ bytes) → (is_full (last_of front) ≡ true → bytes ≢ [])
         → is_full (last_of ((c ∷ a) ∷ front)) ≡ true → bytes ≢ []
-    by_front [] {code} is last apart full none = let one : code ≡ 1 = omega (arith, ap length none) in shorter [] (c ∷ a) full (cc)
+    by_front [] {code} is last apart full none = shorter [] (c ∷ a) full (cc)
     by_front (x ∷ front) is last apart full none = apart full none
 
 -- an encoded frame, given its blocks
@@ -111,13 +111,13 @@ lone-parts = refl
 module _ (block f : List ℕ) (is : IsBlock block) where
   -- the blocks of the frame are this block and the blocks of the other bytes
   blocks-are : (blocks : List (List ℕ)) → IsFrameOf (block ++ f) blocks → blocks ≡ block ∷ parts f
-  blocks-are blocks h = sym (parts-frame (block ++ f) blocks h) ∙ parts-block block f is
+  blocks-are blocks h = sym (parts-frame _ blocks h) ∙ parts-block block f is
 
   -- so the other bytes are a frame of their parts
   rest-frame : f ≢ [] → (blocks : List (List ℕ)) → IsFrameOf (block ++ f) blocks → IsFrameOf f (parts f)
   rest-frame some blocks h =
-      let g : IsFrameOf (block ++ f) (block ∷ parts f) = subst (IsFrameOf (block ++ f)) (blocks-are blocks h) h in
-      let whole : f ≡ concat (parts f) = append_cancel_left block f (concat (parts f)) g.whole in
+      let g : IsFrameOf (block ++ f) (block ∷ parts f) = grind (arith, blocks-are) in
+      let whole : f ≡ concat (parts f) = grind (arith, append_cancel_left) in
       record { some = λ e. some (whole ∙ ap concat e); each = All-tail IsBlock block (parts f) g.each; whole = whole }
 
   pub front-frame : f ≢ [] → IsFrame (block ++ f) ↔ IsFrame f
@@ -132,7 +132,7 @@ module _ (block f : List ℕ) (is : IsBlock block) where
       record {
         blocks = parts f;
         frame = rest-frame some c.blocks c.frame;
-        shorter = IsShorter-tail block (parts f) (subst IsShorter (blocks-are c.blocks c.frame) c.shorter);
+        shorter = IsShorter-tail block (parts f) (grind (arith, blocks-are));
       },
       λ full lone. c.shorter [] block full (cc (blocks-are c.blocks c.frame, lone-parts)),
     ),

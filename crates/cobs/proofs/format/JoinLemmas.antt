@@ -1,7 +1,6 @@
 -- Frames joined are a frame. A front of a frame that is a frame ends at the end of a block, because the parts of a list
 -- are the blocks of its only frame (`parts-frame`).
-use Rattle.std.proofs.Common.{◌≡◌, ◌≢◌, ℕ, ◌↔◌, List, [], ◌∷◌, ◌++◌, All, refl, ap, ◌∙◌, length, subst, arith, append-nil, length-append, append_assoc}
-use Rattle.std.specs.List.{concat}
+use Rattle.std.proofs.Common.{◌≡◌, ◌≢◌, ℕ, ◌↔◌, List, [], ◌∷◌, ◌++◌, refl, ap, ◌∙◌, length, arith, append-nil, length-append, append_assoc}
 use Rattle.std.proofs.lemmas.List.{nil_from_length}
 use Rattle.std.proofs.lemmas.List.Folds.{concat-append}
 use Rattle.std.proofs.lemmas.List.Elements.{All-append}
@@ -39,7 +38,7 @@ first_blocks p q blocks first frame front = cc (parts-frame (p ++ q) blocks fram
 -- the message of the first blocks is a front of the message of all
 message_of-front : (first rest : List (List ℕ)) → first ≢ [] → (more : List ℕ) × (message_of (first ++ rest) ≡ message_of first ++ more)
 message_of-front first [] some = grind (arith, append-nil)
-message_of-front first (b ∷ rest) some = (_, message_of-append first (b ∷ rest) some (λ e. cc) ∙ append_assoc (message_of first) (joint (last_of first)) (message_of (b ∷ rest)))
+message_of-front first (b ∷ rest) some = (_, message_of-append first (b ∷ rest) some (λ e. cc) ∙ append_assoc (message_of first) _ (message_of (b ∷ rest)))
 
 -- a front is a frame exactly if it ends at a block's end
 pub front_frame : (p q m : List ℕ) (r : Reads (p ++ q) m) → p ≢ [] → IsFrame p ↔ EndsAtBlock p r.blocks
@@ -49,7 +48,7 @@ front_frame p q m r some = (
     message_of first,
     record {
       blocks = first;
-      frame = record { some = λ none. some (ends ∙ ap concat none); each = (All-apart IsBlock first rest (subst (All IsBlock) is r.frame.each)).0; whole = ends };
+      frame = grind (arith, All-apart);
       message = refl;
     },
   ),

@@ -25,7 +25,7 @@ pub says : (f : List ℕ) (kind : FrameKind) → IsKindOf kind f → record {
   canonical : (kind ≡ Canonical) ↔ IsCanonical f;
   longer : (kind ≡ Longer) ↔ (IsFrame f × ¬ IsCanonical f);
 }
-says f kind h = record { not_a_frame = grind (arith, frame_of); canonical = grind (arith, frame_of); longer = grind arith }
+says f kind h = grind (arith, frame_of)
 
 -- BLOCK BY BLOCK
 
@@ -52,14 +52,14 @@ one-more f (suc n ∷ bytes) full blocks more =
     let m = length-take-le n bytes (omega arith) in
     let none = All-tail (λ b. b ≢ 0) (suc n) bytes blocks.nonzero in
     let is : IsBlock block = (omega arith, All-head (λ b. b < 256) (suc n) bytes blocks.below, All-take (λ b. b ≢ 0) n bytes none) in
-    let other : after ≢ [] = λ e. omega (arith, ap length e) in
+    let other : after ≢ [] = grind arith in
     let all = take-append-drop n bytes in
     let same_frame = subst (λ x. IsFrame (suc n ∷ x) ↔ IsFrame after) all (front-frame block after is other) in
     let same_kind = subst (λ x. IsCanonical (suc n ∷ x) ↔ (IsCanonical after × (IsFull block → after ≢ lone_block))) all (front-canonical block after is other) in
     record {
       nonzero = All-drop (λ b. b ≢ 0) n bytes none;
       below = All-drop (λ b. b < 256) n bytes (All-tail (λ b. b < 256) (suc n) bytes blocks.below);
-      frame = (λ h. same_frame.0 (blocks.frame.0 h), λ h. blocks.frame.1 (same_frame.1 h));
+      frame = grind arith;
       canonical = (λ h. same_kind.0 (blocks.canonical.0 h).0, λ h. blocks.canonical.1 (same_kind.1 h, λ _ e. omega (arith, ap length e)));
     }
 

@@ -16,10 +16,6 @@ no_zero bytes h = grind arith
 pub some_stretch : (m : List ℕ) → stretches m ≢ []
 some_stretch m e = omega (arith, length-slice_split (λ b. b == 0) m, ap length e)
 
--- a last run of at most 254 bytes is one block
-pub encoded_len-last : (bytes : List ℕ) → length bytes < 255 → HasNoZero bytes → encoded_len bytes ≡ length bytes + 1
-encoded_len-last bytes l h = grind (arith, slice_split_none)
-
 -- a run that others follow has one full block for each 254 bytes
 blocks-cons : (run : ℕ) (parts : List (List ℕ)) → parts ≢ [] → full_blocks (run ∷ map length parts) ≡ run / 254 + full_blocks (map length parts)
 blocks-cons run [] some = grind arith
@@ -40,7 +36,7 @@ onto_parts a (p ∷ ps) = (a ++ p) ∷ ps
 -- nonzero bytes lengthen the first stretch
 pub stretches-front : (bytes m : List ℕ) → HasNoZero bytes → stretches (bytes ++ m) ≡ onto_parts bytes (stretches m)
 stretches-front [] m h = grind (arith, some_stretch)
-stretches-front (b ∷ bs) m h = grind (arith, All-head, All-tail, stretches-front bs m (All-tail (λ b. b ≢ 0) b bs h))
+stretches-front (b ∷ bs) m h = grind (arith, All-head, stretches-front bs m (All-tail (λ b. b ≢ 0) b bs h))
 
 -- 254 bytes before the first part are one full block more, if a part is left
 full_more : (bytes : List ℕ) (parts : List (List ℕ)) → length bytes ≡ 254 → parts ≢ [] → join_with_byte 0 parts ≢ []
@@ -64,8 +60,12 @@ full_blocks-le (p ∷ q ∷ ps) = grind (arith, length-append, full_blocks-le (q
 -- the bound. Messages without zeros reach it, so it is reached at each length.
 pub encoded_len-le : (m : List ℕ) → encoded_len m ≤ max_encoded_len (length m)
 encoded_len-le m =
-    let h = subst (λ x. full_blocks (runs m) + 1 ≤ max_overhead (length x)) (join_with_byte-slice_split 0 m) (full_blocks-le (stretches m)) in
+    let h = subst (λ x. full_blocks (runs m) + 1 ≤ max_overhead (length x)) (join_with_byte-slice_split 0 m) (full_blocks-le _) in
     omega arith
+
+-- a message of at most 254 bytes has one code
+pub encoded_len-short : (m : List ℕ) → length m < 255 → encoded_len m ≡ length m + 1
+encoded_len-short m short = omega (arith, encoded_len-le m)
 
 pub encoded_len-nonzero : (m : List ℕ) → HasNoZero m → encoded_len m ≡ max_encoded_len (length m)
 encoded_len-nonzero m h = grind (arith, slice_split_none)

@@ -1,8 +1,8 @@
 -- A stream that has a frame and a zero for each of some messages has these messages as its outcomes: by `StreamLemmas`, one
 -- message at a time.
-use Rattle.std.proofs.Common.{◌≡◌, ◌≢◌, ℕ, ◌+◌, ◌<◌, ◌≤◌, List, [], ◌∷◌, ◌++◌, length, take, set, map, All, arith, append_assoc, length-append, length-take, get_or}
+use Rattle.std.proofs.Common.{◌≡◌, ℕ, ◌+◌, ◌<◌, ◌≤◌, List, [], ◌∷◌, ◌++◌, length, take, set, map, All, arith, append_assoc, length-append, length-take, get_or}
 use Rattle.std.specs.List.{AllZip, flat_map}
-use Rattle.std.proofs.lemmas.List.{take_more, map_push, take-map, flat_map_more, take-append-le}
+use Rattle.std.proofs.lemmas.List.{take-map, flat_map_more}
 use Rattle.std.proofs.lemmas.List.Elements.{AllZip-push, All-nil, All-head, All-tail}
 use Rattle.std.proofs.lemmas.List.Sums.{sum_by-take-le}
 use Rattle.std.proofs.Math.Seq.{take-append-add}
@@ -31,7 +31,7 @@ AreFrames-push messages bytes frame message h encoded = record {
 -- the messages up to one of the vectors, and that one
 pub messages_in-more : (vectors : List (Vec ℕ)) (i : ℕ) (d : Vec ℕ) → i < length vectors
     → messages_in (take (i + 1) vectors) ≡ messages_in (take i vectors) ++ (get_or vectors i d).items ∷ []
-messages_in-more vectors i d within = rw (take_more vectors i d within) (map_push (λ v. v.items) (take i vectors) (get_or vectors i d))
+messages_in-more vectors i d within = grind (arith, common_steps)
 
 -- THE ROOM
 
@@ -50,7 +50,7 @@ room-step vectors i vector within is = grind (arith, common_steps)
 pub written : (dest new behind : List ℕ) (end len : ℕ) → end ≤ length dest → len < length new
     → take (end + (len + 1)) (set (take end dest ++ (new ++ behind)) (end + len) 0) ≡ take end dest ++ take len new ++ 0 ∷ []
 written dest new behind end len within room =
-    grind (arith, common_steps, take-append-add, take-append-le)
+    grind (arith, common_steps, take-append-add)
 
 -- such a list has at least the bytes that were written
 pub length-written : (dest new : List ℕ) (end part : ℕ) → end ≤ length dest → end + length new ≤ length (put_mid end part dest new)
@@ -60,7 +60,7 @@ length-written dest new end part within = grind (arith, length-append, length-ta
 
 outcomes_of_frames : (frames messages : List (List ℕ)) (n : ℕ) → AllZip IsEncodedFrame frames messages → All (λ m. length m ≤ n) messages
     → stream_outcomes (flat_map (λ f. f ++ 0 ∷ []) frames) n ≡ map Message messages
-outcomes_of_frames [] [] n h fits = stream_outcomes-no_zero [] n (All-nil (λ b. b ≢ 0))
+outcomes_of_frames [] [] n h fits = stream_outcomes-no_zero [] n (All-nil _)
 outcomes_of_frames [] (m ∷ messages) n h fits = absurd h
 outcomes_of_frames (f ∷ frames) [] n h fits = absurd h
 outcomes_of_frames (f ∷ frames) (m ∷ messages) n h fits =
@@ -68,7 +68,7 @@ outcomes_of_frames (f ∷ frames) (m ∷ messages) n h fits =
     let rest = outcomes_of_frames frames messages n h.1 (All-tail (λ m. length m ≤ n) m messages fits) in
     let more = flat_map (λ f. f ++ 0 ∷ []) frames in
     let first = stream_outcomes-front f more n (frame_some f m r) (frame_nonzero f m r) in
-    cc (append_assoc f (0 ∷ []) more, outcome_frame f m n r (All-head (λ m. length m ≤ n) m messages fits))
+    cc (append_assoc f (0 ∷ []) more, outcome_frame f m n r (grind (arith, All-head)))
 
 -- the frames of messages that a buffer holds come out as exactly these messages
 pub AreFrames-outcomes : (messages : List (List ℕ)) (bytes : List ℕ) (n : ℕ) → AreFrames messages bytes → All (λ m. length m ≤ n) messages → stream_outcomes bytes n ≡ map Message messages

@@ -59,11 +59,11 @@ no_sentinel f s (m, r) = All-map (λ b. b ≢ s) (λ b. bit_xor b s) f
     (All-weaker (λ b. b ≢ 0) (λ b. bit_xor b s ≢ s) (λ b some is. some (sym (xor_twice b s) ∙ ap (λ x. bit_xor x s) is ∙ xor_self s)) f (frame_nonzero f m r))
 
 pub no_sentinel_for : (s : ℕ) (f : List ℕ) → IsFrame (xor_each s f) → IsFreeOf s f
-no_sentinel_for s f frame = subst (IsFreeOf s) (xor_each-twice s f) (no_sentinel (xor_each s f) s frame)
+no_sentinel_for s f frame = subst (IsFreeOf s) (xor_each-twice s f) (no_sentinel _ s frame)
 
 pub encoded_free : (s : ℕ) (f : List ℕ) {m : List ℕ} → IsEncodedFrameFor s f m → IsFreeOf s f
 encoded_free s f {m} e = no_sentinel_for s f (m, e.reads)
 
 -- a frame between two sentinels
 pub delimited_nonzero : {bytes m : List ℕ} → IsDelimitedFrame bytes m → HasNoZero (between_ends bytes)
-delimited_nonzero {bytes} {m} (f, e, is) = grind (arith, take_at, length-append, encoded_nonzero e)
+delimited_nonzero (f, e, is) = grind (arith, take_at, length-append, encoded_nonzero e)

@@ -27,13 +27,13 @@ length-stretches t = grind (arith, length-slice_split)
 pub stretches-append : (t u : List ℕ) → stretches (t ++ u) ≡ but_last (stretches t) ++ stretches (last_of (stretches t) ++ u)
 unfolding but_last
 stretches-append [] u = refl
-stretches-append (zero ∷ t) u = grind (arith, (stretches-append t u), length-stretches t)
-stretches-append (suc b ∷ t) u = grind (arith, length-stretches, (stretches-append t u))
+stretches-append (zero ∷ t) u = grind (arith, stretches-append t u, length-stretches t)
+stretches-append (suc b ∷ t) u = grind (arith, stretches-append t u)
 
 but_last-append : (xs ys : List (List ℕ)) → 0 < length ys → but_last (xs ++ ys) ≡ xs ++ but_last ys
 unfolding but_last
 but_last-append [] ys h = refl
-but_last-append (x ∷ xs) ys h = grind (arith, (but_last-append xs ys h), length-append xs ys)
+but_last-append (x ∷ xs) ys h = grind (arith, but_last-append xs ys h, length-append xs ys)
 
 -- the pieces of a stream in two parts
 pub ended_pieces-append : (t u : List ℕ) → ended_pieces (t ++ u) ≡ ended_pieces t ++ ended_pieces (unended t ++ u)
@@ -109,9 +109,9 @@ last_of-onto_first b ss h e p = grind arith
 
 pub unended_no_zero : (t : List ℕ) → HasNoZero (unended t)
 unfolding unended
-unended_no_zero [] = All-nil (λ x. x ≢ 0)
+unended_no_zero [] = All-nil _
 unended_no_zero (zero ∷ t) = grind (arith, unended_no_zero t)
-unended_no_zero (suc b ∷ t) = grind (arith, last_of-onto_first, length-stretches, (unended_no_zero t))
+unended_no_zero (suc b ∷ t) = grind (arith, last_of-onto_first, unended_no_zero t)
 
 -- ONE MORE BYTE OF A STREAM
 
@@ -139,15 +139,15 @@ nonempty-unended_push t b = grind (arith, unended-push, nonempty-push)
 pub nonempty-unended_last : (p bytes : List ℕ) → 0 < length bytes → not (eqb (get_or bytes (length bytes - 1) 0) 0) ≡ is_nonempty (unended (p ++ bytes))
 nonempty-unended_last p bytes h =
     let same : bytes ≡ take (length bytes - 1) bytes ++ get_or bytes (length bytes - 1) 0 ∷ []
-    = sym (take_all (length bytes - 1 + 1) bytes (omega arith)) ∙ take_more bytes (length bytes - 1) 0 (omega arith) in
-    nonempty-unended_push (p ++ take (length bytes - 1) bytes) (get_or bytes (length bytes - 1) 0)
-    ∙ ap (λ x. is_nonempty (unended x)) (append_assoc p (take (length bytes - 1) bytes) _ ∙ ap (λ x. p ++ x) (sym same))
+    = sym (grind (arith, take_all)) ∙ take_more bytes _ 0 (omega arith) in
+    nonempty-unended_push (p ++ take (length bytes - 1) bytes) _
+    ∙ ap (λ x. is_nonempty (unended x)) (grind (arith, append_assoc))
 
 -- DAMAGE BETWEEN TWO SENTINELS
 
 -- nothing is unended at a sentinel
 unended-at_sentinel : (t : List ℕ) → IsAtSentinel t → unended t ≡ []
-unended-at_sentinel t (inl none) = ap unended none ∙ unended-no_zero [] (All-nil (λ x. x ≢ 0))
+unended-at_sentinel t (inl none) = ap unended none ∙ unended-no_zero [] (All-nil _)
 unended-at_sentinel t (inr (front, ends)) = ap unended ends ∙ unended-zero front
 
 -- the bytes before a sentinel, up to the next one, and after that one have their own outcomes
@@ -160,7 +160,7 @@ pub stream_outcomes-one : (d : List ℕ) (n : ℕ) → d ≢ [] → HasNoZero d 
 stream_outcomes-one d n h e = grind (arith, stream_outcomes-piece)
 
 pub stream_outcomes-nothing : (n : ℕ) → stream_outcomes (0 ∷ []) n ≡ []
-stream_outcomes-nothing n = stream_outcomes-piece [] n (All-nil (λ b. b ≢ 0))
+stream_outcomes-nothing n = stream_outcomes-piece [] n (All-nil _)
 
 -- A STREAM THAT BEGINS WITH A PIECE AND ITS ZERO
 
@@ -172,15 +172,15 @@ stream_outcomes-front f u n some h =
 module _ (f u : List ℕ) (n k : ℕ) (some : f ≢ []) (h : HasNoZero f) where
   -- up to the zero, nothing has ended
   outcomes-before : k ≤ length f → stream_outcomes (take k (f ++ 0 ∷ u)) n ≡ []
-  outcomes-before within = rw (take-append-le k f (0 ∷ u) within) (stream_outcomes-no_zero (take k f) n (All-take (λ b. b ≢ 0) k f h))
+  outcomes-before within = rw (take-append-le k f (0 ∷ u) within) (stream_outcomes-no_zero _ n (All-take (λ b. b ≢ 0) k f h))
 
   -- with the zero, the first outcome is that of the piece
   pub outcomes-behind : length f < k → (rest : List Outcome) × (stream_outcomes (take k (f ++ 0 ∷ u)) n ≡ outcome_of f n ∷ rest)
   outcomes-behind past =
       let split : k ≡ length f + suc (k - length f - 1) = omega arith in
       let cut : take k (f ++ 0 ∷ u) ≡ f ++ 0 ∷ take (k - length f - 1) u
-      = ap (λ k. take k (f ++ 0 ∷ u)) split ∙ take-append-add f (0 ∷ u) (suc (k - length f - 1)) in
-      (_, ap (λ x. stream_outcomes x n) cut ∙ stream_outcomes-front f (take (k - length f - 1) u) n some h)
+      = ap (λ k. take k (f ++ 0 ∷ u)) split ∙ take-append-add f (0 ∷ u) _ in
+      (_, ap (λ x. stream_outcomes x n) cut ∙ stream_outcomes-front f _ n some h)
 
   -- so the outcomes of the first k bytes say whether the zero is among them
   pub outcomes-none : stream_outcomes (take k (f ++ 0 ∷ u)) n ≡ [] → k ≤ length f

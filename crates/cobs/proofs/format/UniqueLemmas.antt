@@ -1,18 +1,18 @@
 -- Each message has one encoded frame (`one_encoded`): the message says which bytes its first block has (`first_bytes`),
 -- so blocks that stand for one message are equal, except for a lone block at the end (`same_blocks`). The length of the
 -- frame is counted block by block (`len-blocks`).
-use Rattle.std.proofs.Common.{◌⊎◌, inl, inr, ◌≡◌, ◌≢◌, ℕ, ◌+◌, true, List, [], ◌∷◌, ◌++◌, length, take, All, refl, sym, ap, ◌∙◌, subst, arith, append-nil, append_assoc, length-append, take_at, take_all}
+use Rattle.std.proofs.Common.{◌⊎◌, inl, inr, ◌≡◌, ◌≢◌, ℕ, ◌+◌, true, List, [], ◌∷◌, ◌++◌, length, take, All, refl, sym, ap, ◌∙◌, arith, append-nil, append_assoc, length-append, take_at, take_all}
 use Rattle.std.specs.List.{concat}
-use Rattle.std.proofs.lemmas.Bool.{cases_Bool, eqb-false}
+use Rattle.std.proofs.lemmas.Bool.{cases_Bool}
 use Rattle.std.proofs.lemmas.List.{append_cancel_left}
 use Rattle.std.proofs.lemmas.List.Elements.{All-head, All-tail}
-use Rattle.cobs.specs.Grammar.{IsBlock, IsFull, is_full, joint, last_of, lone_block, message_of, bytes_of, IsEncodedFrame, Reads}
+use Rattle.cobs.specs.Grammar.{IsBlock, IsFull, is_full, joint, last_of, lone_block, message_of, bytes_of, IsEncodedFrame}
 use Rattle.cobs.specs.Length.{encoded_len}
 use Rattle.cobs.specs.Stream.{head}
 use Rattle.cobs.proofs.decoding.OutcomeLemmas.{head-append, head-zero, head_alone}
 use Rattle.cobs.proofs.format.GrammarLemmas.{one_frame, one_message, IsShorter, IsShorter-tail, shorter_end}
-use Rattle.cobs.proofs.format.FrameLemmas.{append-some, concat-push}
-use Rattle.cobs.proofs.format.LengthLemmas.{encoded_len-last, encoded_len-zero, encoded_len-full}
+use Rattle.cobs.proofs.format.FrameLemmas.{concat-push}
+use Rattle.cobs.proofs.format.LengthLemmas.{encoded_len-short, encoded_len-zero, encoded_len-full}
 
 -- WHAT BLOCKS STAND FOR
 
@@ -24,14 +24,14 @@ some_message (code ∷ bytes) (next ∷ blocks) is more e = grind (arith, length
 
 -- blocks without a byte or a zero between them are the lone block
 empty_message : (b : List ℕ) (bs : List (List ℕ)) → All IsBlock (b ∷ bs) → message_of (b ∷ bs) ≡ [] → b ∷ bs ≡ lone_block ∷ []
-empty_message [] bs h e = absurd (All-head IsBlock [] bs h)
+empty_message [] bs h e = grind (arith, All-head)
 empty_message (c ∷ bytes) [] h e = grind (arith, All-head)
-empty_message (c ∷ bytes) (d ∷ ds) h e = absurd (some_message (c ∷ bytes) (d ∷ ds) (All-head IsBlock (c ∷ bytes) (d ∷ ds) h) (λ z. cc) e)
+empty_message (c ∷ bytes) (d ∷ ds) h e = absurd (some_message (c ∷ bytes) (d ∷ ds) (grind (arith, All-head)) (λ z. cc) e)
 
 -- how long the frame of a block's bytes and more is
 len-block : (block m : List ℕ) → IsBlock block → (is_full block ≡ true → m ≢ []) → encoded_len (bytes_of block ++ joint block ++ m) ≡ length block + encoded_len m
 len-block [] m is some = absurd is
-len-block (code ∷ bytes) m is some = grind (arith, append_assoc, encoded_len-full, eqb-false, encoded_len-zero, cases_Bool)
+len-block (code ∷ bytes) m is some = grind (arith, append_assoc, encoded_len-full, encoded_len-zero)
 
 -- the blocks before the last one are part of the encoded frame, unless the last one is empty and follows a full block
 pub len-blocks : (front : List (List ℕ)) (code : ℕ) (bytes : List ℕ) → All IsBlock front → (is_full (last_of front) ≡ true → bytes ≢ [])
@@ -40,18 +40,18 @@ len-blocks [] code bytes each some = omega arith
 len-blocks (b ∷ []) code bytes each some = grind (arith, append-nil, len-block, All-head)
 len-blocks (b ∷ c ∷ front) code bytes each some =
     let more = All-tail IsBlock b (c ∷ front) each in
-    grind (arith, append-some, len-block, All-head, len-blocks (c ∷ front) code bytes more some, length-append b (concat (c ∷ front)))
+    grind (arith, len-block, All-head, len-blocks (c ∷ front) code bytes more some, length-append b (concat (c ∷ front)))
 
 -- THERE IS ONE ENCODED FRAME
 
 -- the bytes of the first block are the first 254 of the message, as far as its first zero
 first_bytes : (c : ℕ) (a : List ℕ) (bs : List (List ℕ)) (n : ℕ) → All IsBlock ((c ∷ a) ∷ bs) → n ≡ 254 → a ≡ take n (head (message_of ((c ∷ a) ∷ bs)))
-first_bytes c a [] n h e = let is = All-head IsBlock (c ∷ a) [] h in rw (head_alone a is.2) (sym (take_all n a (omega arith)))
+first_bytes c a [] n h e = let is = All-head IsBlock (c ∷ a) [] h in rw (head_alone a is.2) (grind (arith, take_all))
 first_bytes c a (d ∷ ds) n h e =
     let is = All-head IsBlock (c ∷ a) (d ∷ ds) h in
     let cut : head (message_of ((c ∷ a) ∷ d ∷ ds)) ≡ a ++ head (joint (c ∷ a) ++ message_of (d ∷ ds))
-    = ap head (append_assoc a (joint (c ∷ a)) (message_of (d ∷ ds))) ∙ head-append a _ is.2 in
-    grind (arith, eqb-false, head-zero, append-nil, take_all, take_at)
+    = ap head (grind (arith, append_assoc)) ∙ head-append a _ is.2 in
+    grind (arith, head-zero, append-nil, take_all, take_at)
 
 -- so the first blocks of one message are one
 same_first : (b c : List ℕ) (bs cs : List (List ℕ)) → All IsBlock (b ∷ bs) → All IsBlock (c ∷ cs) → message_of (b ∷ bs) ≡ message_of (c ∷ cs) → b ≡ c
@@ -64,10 +64,10 @@ same_first (x ∷ b) (y ∷ c) bs cs h i e =
 -- a block that stands for the same message as it and other blocks is full, and the lone block follows it
 then_lone : (b d : List ℕ) (ds : List (List ℕ)) → All IsBlock (b ∷ d ∷ ds) → bytes_of b ≡ message_of (b ∷ d ∷ ds) → IsFull b × (d ∷ ds ≡ lone_block ∷ [])
 then_lone b d ds h e =
-    let rest : [] ≡ joint b ++ message_of (d ∷ ds) = append_cancel_left (bytes_of b) [] _ (append-nil (bytes_of b) ∙ e ∙ append_assoc (bytes_of b) (joint b) (message_of (d ∷ ds))) in
+    let rest : [] ≡ joint b ++ message_of (d ∷ ds) = append_cancel_left (bytes_of b) [] _ (grind (arith, append-nil, append_assoc)) in
     elim (cases_Bool (is_full b)) [
       | inl full ↦ (full, empty_message d ds (All-tail IsBlock b (d ∷ ds) h) (grind arith))
-      | inr open' ↦ absurd (grind arith)
+      | inr open' ↦ grind arith
     ]
 
 -- bs are the blocks cs and the lone block, and the last of cs is full
@@ -84,7 +84,7 @@ same_blocks (b ∷ []) (c ∷ d ∷ ds) some some' each each' shorter same =
     absurd (shorter [] c lone.0 (ap (λ l. c ∷ l) lone.1))
 same_blocks (b ∷ d ∷ ds) (c ∷ []) some some' each each' shorter same =
     let first = same_first b c (d ∷ ds) [] each each' same in
-    let lone = then_lone b d ds each (ap bytes_of first ∙ sym same) in
+    let lone = then_lone b d ds each (grind arith) in
     inr ([], b, lone.0, ap (λ l. l ∷ []) (sym first), ap (λ l. b ∷ l) lone.1)
 same_blocks (b ∷ d ∷ ds) (c ∷ k ∷ ks) some some' each each' shorter same =
     let first = same_first b c (d ∷ ds) (k ∷ ks) each each' same in
@@ -102,7 +102,7 @@ pub one_encoded : (f g m : List ℕ) → IsEncodedFrame f m → IsEncodedFrame g
 one_encoded f g m e d =
     let fr = e.reads.frame in
     let gr = d.reads.frame in
-    elim (same_blocks _ _ fr.some gr.some fr.each gr.each (IsEncodedFrame-shorter g m d) (sym e.reads.message ∙ d.reads.message)) [
+    elim (same_blocks _ _ fr.some gr.some fr.each gr.each (IsEncodedFrame-shorter g m d) (grind arith)) [
       | inl same ↦ grind arith
       | inr (front, block, full, is, longer) ↦ absurd (IsEncodedFrame-shorter f m e front block full longer)
     ]
@@ -111,8 +111,8 @@ pub length-encoded : (f m : List ℕ) → IsEncodedFrame f m → length f ≡ en
 length-encoded f m e =
     let r = e.reads in
     let end = shorter_end r.blocks r.frame.some r.frame.each (IsEncodedFrame-shorter f m e) in
-    grind (arith, len-blocks, concat-push, encoded_len-last, length-append)
+    grind (arith, len-blocks, concat-push, encoded_len-short, length-append)
 
 -- equal frames have equal messages
 pub same_message : (f g m k : List ℕ) → IsEncodedFrame f m → IsEncodedFrame g k → f ≡ g → m ≡ k
-same_message f g m k e d same = one_message f m k e.reads (subst (λ x. Reads x k) (sym same) d.reads)
+same_message f g m k e d same = one_message f m k e.reads (grind arith)

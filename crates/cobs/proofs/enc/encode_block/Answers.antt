@@ -1,18 +1,14 @@
--- A message of fewer than 255 bytes has one code (`len-short`), and its frame, with each byte XORed with the sentinel, is
+-- A message of fewer than 255 bytes has one code (`encoded_len-short`), and its frame, with each byte XORed with the sentinel, is
 -- a frame for that sentinel (`frame_for`). The bytes after the frame are those that `encode` left (`drop-append-drop`).
-use Rattle.std.proofs.Common.{◌≡◌, ◌≤◌, ◌<◌, ◌+◌, ◌++◌, ℕ, List, length, length-take-le, take, take_at, drop, ◌∙◌, arith}
+use Rattle.std.proofs.Common.{◌≡◌, ◌≤◌, ◌+◌, ◌++◌, ℕ, List, length, length-take-le, take, take_at, drop, ◌∙◌, arith}
 use Rattle.std.proofs.lemmas.List.{length-map}
 use Rattle.std.proofs.lemmas.Slice.{drop-append-drop}
 use Rattle.cobs.specs.Grammar.{IsEncodedFrame}
-use Rattle.cobs.specs.Length.{encoded_len}
 use Rattle.cobs.specs.Sentinel.{IsEncodedFrameFor, xor_each}
-use Rattle.cobs.proofs.format.LengthLemmas.{encoded_len-le}
+use Rattle.cobs.proofs.format.LengthLemmas.{encoded_len-short}
 use Rattle.cobs.proofs.format.SentinelLemmas.{xor_each-twice}
-use Rattle.cobs.proofs.enc.encode_block.Goals as goal
 use Rattle.cobs.proofs.enc.encode_block.Goals.{After-xor_bytes}
-
-len-short : (m : List ℕ) → length m < 255 → encoded_len m ≡ length m + 1
-len-short m short = omega (arith, encoded_len-le m)
+use Rattle.cobs.proofs.enc.encode_block.Goals as goal
 
 -- a frame of which each byte is XORed with s is a frame for s
 frame_for : (s n : ℕ) (coded changed m : List ℕ) → n ≤ length coded → changed ≡ xor_each s (take n coded) → IsEncodedFrame (take n coded) m
@@ -20,13 +16,13 @@ frame_for : (s n : ℕ) (coded changed m : List ℕ) → n ≤ length coded → 
 frame_for s n coded changed m within is frame = grind (arith, length-map, length-take-le, take_at, xor_each-twice)
 
 len-is : (c : After-xor_bytes) → c.encode-len.result ≡ length c.args.source.now + 1
-len-is c = grind (arith, len-short)
+len-is c = grind (arith, encoded_len-short)
 
 pub returns-clause-frame : goal.returns-clause-frame
 returns-clause-frame c =
     let coded : List ℕ = c.encode-len.new.dest in
     let m : List ℕ = c.args.source.now in
-    frame_for c.args.sentinel (length m + 1) coded c.xor_bytes.new.bytes m (omega arith) c.xor_bytes.ensures.changed
+    frame_for c.args.sentinel _ coded c.xor_bytes.new.bytes m (omega arith) c.xor_bytes.ensures.changed
     (rw (len-is (goal.at.returns-clause-frame c).After-xor_bytes) at c.encode-len.ensures.frame)
 
 pub returns-clause-rest : goal.returns-clause-rest

@@ -2,13 +2,13 @@
 -- frame.
 use Rattle.std.proofs.Common.{◌≡◌, [], ◌∙◌, arith}
 use Rattle.std.proofs.lemmas.Grind.{common_steps}
-use Rattle.cobs.proofs.encoding.TakingLemmas.{all-rest, start-after, start-len, start-taken}
+use Rattle.cobs.proofs.encoding.TakingLemmas.{all-rest, start-after, start-len}
 use Rattle.cobs.proofs.enc.encode_long.Goals as goal
 
 pub returns-then-is_empty-clause-frame : goal.returns-then-is_empty-clause-frame
 returns-then-is_empty-clause-frame c =
     let none : c.args.source.now ≡ [] = grind (arith, common_steps) in
-    rw none (c.close.ensures.frame [] (start-taken c.args.dest.now _ c.new.ensures.start (omega arith)))
+    grind arith
 
 pub returns : goal.returns
 returns c = record {

@@ -8,8 +8,8 @@ use lib.Count.{count_trailing_zeros}
 use Rattle.cobs_bytes.specs.Bytes.{HasNoZero}
 use Rattle.cobs_bytes.specs.Mask.{lowest, zero_mask}
 use Rattle.cobs_bytes.proofs.bytes.MaskLemmas.{clear_front, lowest-within, lowest-zero, zero_mask-none}
+use Rattle.cobs.proofs.find.front_len.Goals.{After-zeros_at-later}
 use Rattle.cobs.proofs.find.front_len.Goals as goal
-use Rattle.cobs.proofs.find.front_len.Goals.{After-zeros_at-zeros, After-zeros_at-later, else-source-gt-WIDE_WINDOW-via-then-source-gt-WIDE_WINDOW+else-source-eq0, else-source-gt-WIDE_WINDOW-via-else-source-gt-WIDE_WINDOW}
 
 -- the mask of the zeros in the first 32 bytes
 record Window (bytes : List ℕ) (zeros : ℕ) : Type 0 where
@@ -31,13 +31,13 @@ module _ {bytes : List ℕ} {zeros : ℕ} (w : Window bytes zeros) (some : zeros
   place = ap lowest w.is
 
   within : first < 32
-  within = omega (arith, long, place, lowest-within window (omega (arith, long)) (λ none. some (w.is ∙ none)))
+  within = grind (arith, long, lowest-within)
 
   before : HasNoZero (take first bytes)
-  before = rw (← take-take first 32 bytes (omega (arith, within))) (clear_front window (omega (arith, long)) first (omega (arith, place)))
+  before = rw (← take-take first 32 bytes (omega (arith, within))) (grind (arith, clear_front, long))
 
   stop : get_or bytes first 0 ≡ 0
-  stop = sym (get_or-take 32 bytes first 0 within) ∙ rw place (lowest-zero window (omega (arith, long)) (omega (arith, long, place, within)))
+  stop = sym (get_or-take 32 bytes first 0 within) ∙ rw place (grind (arith, lowest-zero, long, within))
 
 -- the first window has no zero
 module _ (c : After-zeros_at-later) where
@@ -55,14 +55,14 @@ module _ (c : After-zeros_at-later) where
 
   both : (k : ℕ) → HasNoZero (take k (drop at source)) → HasNoZero (take (at + k) source)
   both k after =
-      let none = zero_mask-none (take 32 source) (sym c.zeros_at-zeros.ensures ∙ c.if-zeros-ne0.false) in
+      let none = zero_mask-none (take 32 source) (grind arith) in
       let front = rw (take-take at 32 source (omega arith)) at (All-take (λ b. b ≢ 0) at (take 32 source) none) in
-      rw (take-add at k source) (All-append (λ b. b ≢ 0) (take at source) (take k (drop at source)) front after)
+      rw (take-add at k source) (All-append (λ b. b ≢ 0) _ _ front after)
 
   -- the second window has no zero either
   module _ (none : c.zeros_at-later.result ≡ 0) where
     windows : HasNoZero (take (at + 32) source)
-    windows = grind (arith, both, zero_mask-none, later)
+    windows = grind (arith, both, zero_mask-none)
 
     wide : 64 ≤ length source → HasNoZero (take 64 source)
     wide long =
@@ -76,13 +76,7 @@ pub returns-then-zeros-ne0 : goal.returns-then-zeros-ne0
 returns-then-zeros-ne0 c =
     let w : Window c.args.source.now c.zeros_at-zeros.result = record { long = omega arith; is = c.zeros_at-zeros.ensures } in
     let some = c.if-zeros-ne0.true in
-    let lt = within w some in
-    record {
-      within = omega arith;
-      near = λ _. omega arith;
-      before = λ _. before w some;
-      stop = λ _. stop w some;
-    }
+    grind (arith, within, before, stop)
 
 pub returns-then-later-ne0 : goal.returns-then-later-ne0
 returns-then-later-ne0 c =
@@ -94,7 +88,7 @@ returns-then-later-ne0 c =
       within = omega arith;
       near = λ _. omega arith;
       before = λ _. both after _ (before w some);
-      stop = λ _. sym (get_or-drop c.min-at.result c.args.source.now _ 0) ∙ stop w some;
+      stop = λ _. sym (grind (arith, get_or-drop)) ∙ stop w some;
     }
 
 pub returns-then-source-eq0-clause-before : goal.returns-then-source-eq0-clause-before
@@ -104,18 +98,18 @@ pub returns-then-source-eq0-2-clause-before : goal.returns-then-source-eq0-2-cla
 returns-then-source-eq0-2-clause-before c _ =
     let more = wide_more (goal.at.returns-then-source-eq0-2-clause-before c).After-zeros_at-later c.if-later-ne0.false in
     elim c.else-source-gt-WIDE_WINDOW.branch [
-      | else-source-gt-WIDE_WINDOW-via-then-source-gt-WIDE_WINDOW+else-source-eq0 w ↦ more w.if-source-gt-WIDE_WINDOW.true w.if-source-eq0.false
-      | else-source-gt-WIDE_WINDOW-via-else-source-gt-WIDE_WINDOW w ↦ absurd (omega arith)
+      | goal.else-source-gt-WIDE_WINDOW-via-then-source-gt-WIDE_WINDOW+else-source-eq0 w ↦ more w.if-source-gt-WIDE_WINDOW.true w.if-source-eq0.false
+      | goal.else-source-gt-WIDE_WINDOW-via-else-source-gt-WIDE_WINDOW w ↦ grind arith
     ]
 
 pub returns-clause-before : goal.returns-clause-before
 returns-clause-before c short =
     let after = (goal.at.returns-clause-before c).After-zeros_at-later in
     elim c.else-source-gt-WIDE_WINDOW.branch [
-      | else-source-gt-WIDE_WINDOW-via-then-source-gt-WIDE_WINDOW+else-source-eq0 w ↦
+      | goal.else-source-gt-WIDE_WINDOW-via-then-source-gt-WIDE_WINDOW+else-source-eq0 w ↦
           let last : 65 ≡ length c.args.source.now = omega arith in
           rw (← last) (wide_more after c.if-later-ne0.false w.if-source-gt-WIDE_WINDOW.true w.if-source-eq0.false)
-      | else-source-gt-WIDE_WINDOW-via-else-source-gt-WIDE_WINDOW w ↦
+      | goal.else-source-gt-WIDE_WINDOW-via-else-source-gt-WIDE_WINDOW w ↦
           let all : c.min-at.result + 32 ≡ length c.args.source.now = omega arith in
           rw (← all) (windows after c.if-later-ne0.false)
     ]

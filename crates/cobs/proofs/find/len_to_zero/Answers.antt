@@ -1,8 +1,7 @@
 -- The bytes that were passed have no zero (`Searched`). Each iteration passes four bytes, or one byte, that aren't
 -- zeros (`next`, `shorter`).
-use Rattle.std.proofs.Common.{◌≡◌, ◌≢◌, ◌∙◌, ◌+◌, ◌-◌, ◌<◌, ◌≤◌, ◌++◌, ℕ, List, length, take, drop, get_or, ap, sym, subst, arith, length-drop, refl, take_all}
-use Rattle.std.proofs.lemmas.List.{drop-drop}
-use Rattle.std.proofs.lemmas.List.Elements.{All-append, All-nil}
+use Rattle.std.proofs.Common.{◌≡◌, ◌≢◌, ◌+◌, ◌-◌, ◌<◌, ◌≤◌, ℕ, List, length, take, drop, get_or, ap, arith, length-drop, refl, take_all}
+use Rattle.std.proofs.lemmas.List.Elements.{All-nil}
 use Rattle.std.proofs.Math.Seq.{take-add}
 use Rattle.std.proofs.lemmas.Grind.{common_steps}
 use Rattle.cobs.specs.Grammar.{HasNoZero}
@@ -19,18 +18,12 @@ shorter bytes rest after k s within nonzero is =
     let n : ℕ = length bytes - length rest in
     let after-is : after ≡ drop k rest = grind (arith, take_all, length-drop) in
     let sum : n + k ≡ length bytes - length after = omega (arith, ap length after-is, length-drop k rest) in
-    let part : take k (drop n bytes) ≡ take k rest = ap (take k) (sym s.rest) in
-    record {
-      within = omega (arith, s.within, ap length after-is, length-drop k rest);
-      rest = grind (arith, drop-drop);
-      before = subst HasNoZero (ap (λ xs. take n bytes ++ xs) (sym part) ∙ sym (take-add n k bytes) ∙ ap (λ i. take i bytes) sum)
-          (All-append (λ b. b ≢ 0) (take n bytes) (take k rest) s.before nonzero);
-    }
+    grind (arith, common_steps, take-add)
 
 pub by_four-preserved : goal.by_four-preserved
 by_four-preserved c =
     let rest : List ℕ = c.by_four.rest.now in
-    let none : HasNoZero (take 0 rest) = All-nil (λ b. b ≢ 0) in
+    let none : HasNoZero (take 0 rest) = All-nil _ in
     let one = next rest 0 (omega arith) c.if-rest-eq0.false none in
     let two = next rest 1 (omega arith) c.if-rest-eq0-2.false one in
     let three = next rest 2 (omega arith) c.if-rest-eq0-3.false two in
@@ -40,6 +33,6 @@ by_four-preserved c =
 pub by_byte-preserved : goal.by_byte-preserved
 by_byte-preserved c =
     let rest : List ℕ = c.by_byte.rest.now in
-    let none : HasNoZero (take 0 rest) = All-nil (λ b. b ≢ 0) in
+    let none : HasNoZero (take 0 rest) = All-nil _ in
     let some : length rest ≢ 0 = grind arith in
     shorter c.args.bytes.now rest _ 1 c.by_byte.invariant (omega arith) (next rest 0 (omega arith) c.if-rest-ne0.true none) refl

@@ -6,10 +6,4 @@ use Rattle.cobs.proofs.encoding.RoomLemmas.{encoded_len-longer}
 use Rattle.cobs.proofs.laws.law_4.Goals as goal
 
 pub returns : goal.returns
-returns c = record {
-  lower = λ m. omega arith;
-  upper = encoded_len-le;
-  reached = encoded_len-nonzero;
-  everywhere = encoded_len-reached;
-  grows = encoded_len-longer;
-}
+returns c = grind (arith, encoded_len-le, encoded_len-nonzero, encoded_len-reached, encoded_len-longer)

@@ -1,6 +1,6 @@
 -- The list has the outcomes of the bytes so far (`TakesBytes`). Each piece that ends adds an outcome (`takes-piece`); the
 -- last bytes, in which no piece ends, add none (`takes-all`).
-use Rattle.std.proofs.Common.{◌∙◌, refl, arith}
+use Rattle.std.proofs.Common.{refl, arith}
 use Rattle.std.proofs.lemmas.List.{map_push}
 use Rattle.cobs.specs.Messages.{outcome_in}
 use Rattle.cobs.proofs.streaming.FeedLemmas.{DecoderAfter-idle}
@@ -27,7 +27,7 @@ by_piece-preserved g c = record {
   within = grind arith;
   so_far = rw (c.in_ok-push.ensures.items, map_push outcome_in c.by_piece.outcomes.items c.in_ok-frame_outcome.field-0, c.in_ok-frame_outcome.ensures, c.buffer.ensures.value)
       (takes-piece _ _ _ _ c.by_piece.invariant.so_far c.in-Some.ensures.takes);
-  same_loan = c.feed_piece.ensures.same_loan ∙ c.by_piece.invariant.same_loan;
+  same_loan = grind arith;
 }
 
 pub by_piece-smaller : goal.by_piece-smaller

@@ -1,36 +1,36 @@
 -- Each message's frame has room in the rest of the slice (`room`, `fits`), and follows the frames that are written
 -- (`AreFrames-push`).
-use Rattle.std.proofs.Common.{◌≡◌, ◌+◌, ◌-◌, ◌<◌, ◌≤◌, length, take, ap, subst, arith, length-take, length-drop}
+use Rattle.std.proofs.Common.{◌≡◌, ◌+◌, ◌<◌, ◌≤◌, length, take, ap, subst, arith}
 use Rattle.std.proofs.lemmas.List.{length-set}
 use Rattle.cobs.specs.Grammar.{IsEncodedFrame}
 use Rattle.cobs.specs.Length.{encoded_len}
-use Rattle.cobs.proofs.format.MessagesLemmas.{AreFrames-push, messages_in-more, room-step, written, length-written, room-some}
+use Rattle.cobs.proofs.format.MessagesLemmas.{AreFrames-push, messages_in-more, room-step, written, room-some}
 use Rattle.cobs.proofs.format.LengthLemmas.{encoded_len-le}
-use Rattle.cobs.proofs.stream.write_frames.Goals as goal
 use Rattle.cobs.proofs.stream.write_frames.Goals.{After-deref, After-encode-len}
+use Rattle.cobs.proofs.stream.write_frames.Goals as goal
 
 -- there is room for the message's frame and a zero
 room : (c : After-deref) → c.by_message.end + (encoded_len c.deref.result.now + 1) ≤ length c.by_message.dest
 room c = grind (arith, room-step, room-some, encoded_len-le)
 
 pub encode-len-requires : goal.encode-len-requires
-encode-len-requires c = grind (arith, room, length-take, length-drop)
+encode-len-requires c = grind (arith, room)
 
 -- the frame and a zero fit after those that are written
 fits : (c : After-encode-len) → (c.by_message.end + (c.encode-len.result + 1) ≤ length c.by_message.dest) × (c.by_message.end + length c.encode-len.new.dest ≡ length c.by_message.dest)
-fits c = grind (arith, room-step, room-some, encoded_len-le, length-take, length-drop)
+fits c = grind (arith, room-step, room-some, encoded_len-le)
 
 pub overflow_add-dest : goal.overflow_add-dest
-overflow_add-dest c = grind (arith, fits, After-encode-len)
+overflow_add-dest c = grind (arith, fits)
 
 pub bounds-dest-end : goal.bounds-dest-end
-bounds-dest-end c = grind (arith, fits, After-encode-len, length-written)
+bounds-dest-end c = grind (arith, fits)
 
 pub overflow_add-end : goal.overflow_add-end
-overflow_add-end c = grind (arith, fits, After-encode-len)
+overflow_add-end c = grind (arith, fits)
 
 pub overflow_add-end-in-by_message : goal.overflow_add-end-in-by_message
-overflow_add-end-in-by_message c = grind (arith, fits, After-encode-len)
+overflow_add-end-in-by_message c = grind (arith, fits)
 
 pub by_message-preserved : goal.by_message-preserved
 by_message-preserved c =
@@ -41,6 +41,6 @@ by_message-preserved c =
       frames = rw (messages_in-more _ _ c.message-item.result c.by_message-test.true, ← c.message-item.is, written c.by_message.dest c.encode-len.new.dest _ c.by_message.end c.encode-len.result c.by_message.invariant.in_dest len)
           (AreFrames-push _ _ _ _ c.by_message.invariant.frames (subst (λ m. IsEncodedFrame (take c.encode-len.result c.encode-len.new.dest) m) e c.encode-len.ensures.frame));
       within = rw (room-step _ _ c.message-item.result c.by_message-test.true c.message-item.is)
-          (omega (arith, encoded_len-le c.message-item.result.items, ap encoded_len e, c.by_message.invariant.within, c.encode-len.ensures.len));
-      in_dest = simp length-set (omega (arith, length-written c.by_message.dest c.encode-len.new.dest c.by_message.end (length c.by_message.dest - c.by_message.end) c.by_message.invariant.in_dest));
+          (omega (arith, encoded_len-le c.message-item.result.items, ap encoded_len e));
+      in_dest = simp length-set (omega arith);
     }

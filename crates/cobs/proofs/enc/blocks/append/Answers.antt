@@ -1,4 +1,4 @@
--- The windows and the rest are two steps that take the whole source (`front-last`).
+-- The windows and the rest are two steps that take the whole source (`front-next`).
 use Rattle.std.proofs.Common.{arith}
 use Rattle.std.proofs.lemmas.List.{take_rest}
 use Rattle.cobs.proofs.enc.blocks.append.Goals as goal

@@ -3,11 +3,10 @@ use Rattle.std.proofs.Common.{◌≡◌, ℕ, get_or, refl, arith}
 use Rattle.std.proofs.lemmas.List.{length-set}
 use Rattle.cobs.proofs.encoding.ReachLemmas.{Reaches-code, Reaches-weaker, Reaches-zero}
 use Rattle.cobs.proofs.encoding.TakingLemmas.{front-open, joined, reaches-start, written}
-use Rattle.cobs.proofs.enc.blocks.append_few.Goals.{then-byte-eq0, else-byte-eq0}
 use Rattle.cobs.proofs.enc.blocks.append_few.Goals as goal
 
 pub by_byte-init : goal.by_byte-init
-by_byte-init c = record { open' = omega arith; reaches = Reaches-weaker (reaches-start (omega arith) (omega arith) (omega arith)) (λ full u lt. absurd (omega arith)) }
+by_byte-init c = record { open' = omega arith; reaches = Reaches-weaker (reaches-start (omega arith) (omega arith) (omega arith)) (grind arith) }
 
 pub by_byte-preserved : goal.by_byte-preserved
 by_byte-preserved c =
@@ -15,12 +14,12 @@ by_byte-preserved c =
     let r = c.by_byte.invariant.reaches in
     let long = length-set c.by_byte.dest c.by_byte.next byte in
     elim c.if-byte-eq0.branch [
-      | then-byte-eq0 b ↦ rw b.index-is (record { open' = omega arith; reaches = Reaches-zero (written byte (omega arith) r) (omega arith) (omega arith) b.if-byte-eq0.true (omega arith) (λ lt. refl) })
-      | else-byte-eq0 b ↦ rw b.index-is (record { open' = omega arith; reaches = Reaches-code (Reaches-weaker (joined byte (omega arith) r refl b.if-byte-eq0.false (omega arith) (omega arith)) (λ full p lt. p)) _ })
+      | goal.then-byte-eq0 b ↦ rw b.index-is (record { open' = omega arith; reaches = Reaches-zero (written byte (omega arith) r) (omega arith) (omega arith) b.if-byte-eq0.true (omega arith) (λ lt. refl) })
+      | goal.else-byte-eq0 b ↦ rw b.index-is (record { open' = omega arith; reaches = Reaches-code (Reaches-weaker (joined byte (omega arith) r refl b.if-byte-eq0.false (omega arith) (omega arith)) (λ full p lt. p)) _ })
     ]
 
 pub returns : goal.returns
 returns c =
     let all : c.by_byte.read ≡ c.args.len = omega arith in
     let i = c.by_byte.invariant in
-    rw (← all) (front-open (omega arith) (Reaches-weaker i.reaches (λ full p. p (omega arith))) (omega arith) (omega arith) c.encoder_at.ensures)
+    rw (← all) (front-open (omega arith) (Reaches-weaker i.reaches (grind arith)) (omega arith) (omega arith) c.encoder_at.ensures)

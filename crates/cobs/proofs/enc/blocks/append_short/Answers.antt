@@ -38,7 +38,7 @@ pub encoder_at-requires-2 : goal.encoder_at-requires-2
 encoder_at-requires-2 c =
     let at = goal.at.encoder_at-requires-2 c in
     let t = marked at.After-mark_zeros-index (copied at.After-copy_window-mask) in
-    record { ordered = t.ordered; open_block = t.open' }
+    grind arith
 
 pub returns : goal.returns
 returns c =

@@ -1,6 +1,6 @@
 -- Each turn takes one window: without a zero (`masked-end`), with zeros that are marked (`masked-step`), with zeros only
 -- (`row-taken`), or up to a full block (`filled`).
-use Rattle.std.proofs.Common.{ℕ, ◌≡◌, refl, ◌∙◌, ◌≢◌, ◌<◌, ◌≤◌, ◌+◌, ◌-◌, min, ap, sym, arith, length, take, drop, length-drop}
+use Rattle.std.proofs.Common.{ℕ, ◌≡◌, refl, ◌≢◌, ◌<◌, ◌≤◌, ◌+◌, ◌-◌, min, arith, length, take, drop, length-drop}
 use lib.Count.{count_trailing_zeros}
 use Rattle.std.proofs.lemmas.Grind.{common_steps}
 use Rattle.std.proofs.lemmas.Simd.{length-chunk}
@@ -40,7 +40,7 @@ module _ (c : After-copy_at-window) where
 
   coded : zeros ≢ 0 → first - c.by_window.index < 255
       → IsMasked start c.by_window.read 32 c.by_window.next (without_lowest zeros) first (set c.copy_at-window.new.dest c.by_window.index (first - c.by_window.index))
-  coded some near = let ordered = c.by_window.invariant.reaches.ordered in masked-step (masked-start copied (omega arith)) some
+  coded some near = masked-step (masked-start copied (omega arith)) some
 
 pub returns-then-source-le-WINDOW-clause-taken : goal.returns-then-source-le-WINDOW-clause-taken
 returns-then-source-le-WINDOW-clause-taken c = grind (arith, common_steps)
@@ -48,13 +48,13 @@ returns-then-source-le-WINDOW-clause-taken c = grind (arith, common_steps)
 pub by_window-init : goal.by_window-init
 by_window-init c =
     let short = c.requires.place.not_full in
-    record { more = omega arith; open' = omega arith; reaches = Reaches-weaker (reaches-start c.requires.some c.requires.place.some short) (λ full u le. absurd (omega arith)) }
+    record { more = omega arith; open' = omega arith; reaches = Reaches-weaker (reaches-start c.requires.some c.requires.place.some short) (grind arith) }
 
 pub by_window-preserved-then-next-index : goal.by_window-preserved-then-next-index
 by_window-preserved-then-next-index c =
     let w = copied (goal.at.by_window-preserved-then-next-index c).After-copy_at-window in
     let taken = masked-end (masked-start w (omega arith)) c.if-window-eq0.true in
-    record { more = omega arith; open' = taken.open'; reaches = Reaches-weaker taken.reaches (λ full e le. e) }
+    grind arith
 
 pub mark_zeros-index-requires : goal.mark_zeros-index-requires
 mark_zeros-index-requires c = (_, _, _, coded (goal.at.mark_zeros-index-requires c).After-copy_at-window c.if-window-eq0.false (omega arith))
@@ -68,8 +68,8 @@ row c w =
     let fits = w.copied.room in
     let long = length-drop c.by_window.read c.args.source.now in
     let n = length-chunk c.by_window.read 32 c.args.source.now w.copied.inside in
-    let zeros = (window_all (take 32 (drop c.by_window.read c.args.source.now)) (omega arith) (sym w.bits ∙ c.if-window-eq-ALL_ZEROS.true)).1 in
-    let first : lowest c.copy_at-window.result ≡ 0 = ap lowest c.if-window-eq-ALL_ZEROS.true in
+    let zeros = (window_all (take 32 (drop c.by_window.read c.args.source.now)) (omega arith) (grind arith)).1 in
+    let first : lowest c.copy_at-window.result ≡ 0 = grind arith in
     let code : c.by_window.next + lowest c.copy_at-window.result - c.by_window.index ≡ c.by_window.next - c.by_window.index = omega arith in
     let written = rw (take_rest c.args.source.now c.by_window.read, code) at c.write_codes_of_zeros-zeros.ensures in
     let some = written.some (omega arith) zeros in
@@ -79,7 +79,7 @@ pub by_window-preserved-then-window-eq-ALL_ZEROS : goal.by_window-preserved-then
 by_window-preserved-then-window-eq-ALL_ZEROS c =
     let at = goal.at.by_window-preserved-then-window-eq-ALL_ZEROS c in
     let t = row at.After-write_codes_of_zeros-zeros (copied at.After-copy_at-window) in
-    record { more = t.2; open' = t.0.open'; reaches = Reaches-weaker t.0.reaches (λ full e le. e) }
+    grind arith
 
 pub by_window-smaller-then-window-eq-ALL_ZEROS : goal.by_window-smaller-then-window-eq-ALL_ZEROS
 by_window-smaller-then-window-eq-ALL_ZEROS c =
@@ -89,7 +89,7 @@ by_window-smaller-then-window-eq-ALL_ZEROS c =
 pub by_window-preserved : goal.by_window-preserved
 by_window-preserved c =
     let taken = masked-end (c.mark_zeros-index.ensures _ _ _ (coded (goal.at.by_window-preserved c).After-copy_at-window c.if-window-eq0.false (omega arith))) refl in
-    record { more = omega arith; open' = taken.open'; reaches = Reaches-weaker taken.reaches (λ full e le. e) }
+    grind arith
 
 -- no zero is near enough to keep the block from being full
 none-near : (c : Joined-window-eq0) → (c.copy_at-window.result ≢ 0 → lowest c.copy_at-window.result < 32)
@@ -104,10 +104,10 @@ returns-in-by_window c =
     let long = length-set c.copy_at-window.new.dest c.by_window.index 255 in
     record {
       within = omega arith;
-      taken = front-taken (omega arith) (filled w none (omega arith)) (omega arith) (λ all. absurd (omega arith)) (omega arith) c.encoder_at.ensures;
+      taken = front-taken (omega arith) (filled w none (omega arith)) (omega arith) (grind arith) (omega arith) c.encoder_at.ensures;
     }
 
 pub returns-clause-taken : goal.returns-clause-taken
 returns-clause-taken c =
     let i = c.by_window.invariant in
-    front-open (omega arith) (Reaches-weaker i.reaches (λ full p. p (omega arith))) i.open' (omega arith) c.encoder_at-2.ensures
+    front-open (omega arith) (grind arith) i.open' (omega arith) c.encoder_at-2.ensures

@@ -2,7 +2,6 @@
 -- block (`closed-full`), because an open one has room.
 use Rattle.std.proofs.Common.{arith}
 use Rattle.cobs.proofs.encoding.AfterLemmas.{closed-full, closed-open}
-use Rattle.cobs.proofs.enc.blocks.close_block.Goals.{else-index-dest-via-then-index-dest+else-encoder-eq0, else-index-dest-via-else-index-dest}
 use Rattle.cobs.proofs.enc.blocks.close_block.Goals as goal
 
 pub returns-then-encoder-eq0-clause-frame : goal.returns-then-encoder-eq0-clause-frame
@@ -10,6 +9,6 @@ returns-then-encoder-eq0-clause-frame c = λ m h. closed-open h (grind arith)
 
 pub returns-clause-frame : goal.returns-clause-frame
 returns-clause-frame c = λ m h. closed-full h (elim c.else-index-dest.branch [
-  | else-index-dest-via-then-index-dest+else-encoder-eq0 w ↦ grind arith
-  | else-index-dest-via-else-index-dest w ↦ grind arith
+  | goal.else-index-dest-via-then-index-dest+else-encoder-eq0 w ↦ grind arith
+  | goal.else-index-dest-via-else-index-dest w ↦ grind arith
 ])

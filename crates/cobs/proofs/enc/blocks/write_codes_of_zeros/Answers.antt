@@ -1,5 +1,5 @@
 -- Each turn writes one row of ones after those so far (`three-next`).
-use Rattle.std.proofs.Common.{◌+◌, ◌++◌, List, ℕ, take, drop, replicate, sym, ap, ◌∙◌, arith, length-drop, length-take-le}
+use Rattle.std.proofs.Common.{◌+◌, ◌++◌, List, ℕ, take, drop, replicate, ap, ◌∙◌, arith, length-drop, length-take-le}
 use Rattle.std.proofs.Math.Seq.{take-add}
 use Rattle.std.proofs.lemmas.List.{length-replicate, replicate-append-replicate}
 use Rattle.cobs_bytes.proofs.bytes.MaskLemmas.{window_all}
@@ -13,11 +13,11 @@ by_row-preserved c =
     let len : ℕ = c.by_row.len in
     let source : List ℕ = c.args.source.now in
     let long = length-take-le 32 (drop len source) (omega (arith, length-drop len source)) in
-    let row = (window_all _ (omega arith) (sym c.zeros_at.ensures ∙ c.if-zeros_at-eq-ALL_ZEROS.true)).1 in
+    let row = (window_all _ (omega arith) (grind arith)).1 in
     record {
       within = omega arith;
       zeros = take-add len 32 source ∙ ap (λ x. x ++ take 32 (drop len source)) i.zeros ∙ ap (λ x. replicate len 0 ++ x) row ∙ replicate-append-replicate len 32 0;
       written = c.write_row.ensures ∙ ap (λ x. take (at + len) x ++ (replicate 32 1 ++ drop (at + len + 32) x)) i.written
-          ∙ three-next c.args.dest.now (replicate len 1) at len (length-replicate len 1) (omega arith) (replicate 32 1) 32
+          ∙ three-next c.args.dest.now _ at len (length-replicate len 1) (omega arith) (replicate 32 1) 32
           ∙ ap (λ x. take at c.args.dest.now ++ (x ++ drop (at + (len + 32)) c.args.dest.now)) (replicate-append-replicate len 32 1);
     }

@@ -3,10 +3,10 @@
 use Rattle.std.proofs.Common.{length, ◌≡◌, ◌<◌, ◌+◌, ◌-◌, ◌∙◌, false, ℕ, List, drop, get_or, take, refl, arith, ◌≤◌, sym, inl, inr, append-nil}
 use Rattle.std.proofs.lemmas.List.{get_or-drop, get_or-take, drop-set-lt}
 use Rattle.cobs.specs.Internal.Reaches.{Reaches, HadTaken, Start, start_with, whole_end}
-use Rattle.cobs.proofs.encoding.ReachLemmas.{IsNotFull, Reaches-at, Reaches-full, Reaches-weaker, Reaches-zero, ends}
+use Rattle.cobs.proofs.encoding.ReachLemmas.{IsNotFull, Reaches-at, Reaches-full, Reaches-zero, ends}
 use Rattle.cobs.proofs.encoding.TakingLemmas.{joined, front-filled, front-open, start-after}
 use Rattle.cobs.proofs.format.SentinelLemmas.{encoded_nonzero}
-use Rattle.cobs.proofs.enc.each.write_each.Goals.{After-min-len, then-next-index-eq-FULL_CODE, else-next-index-eq-FULL_CODE, then-byte-eq0, else-byte-eq0}
+use Rattle.cobs.proofs.enc.each.write_each.Goals.{After-min-len}
 use Rattle.cobs.proofs.enc.each.write_each.Goals as goal
 use Rattle.std.proofs.Math.ListN.{set}
 use Rattle.std.proofs.lemmas.Bool.{cases_lt}
@@ -40,7 +40,7 @@ module _ {old source slice : List ℕ} {pos index next : ℕ} (some : 0 < length
   whole-len = sym (ends r last) ∙ whole-fits old source some
 
   whole-rest : drop next (set slice index (next - index)) ≡ drop next old
-  whole-rest = let ordered = r.ordered in drop-set-lt next slice index (next - index) (omega arith) ∙ (rw (ends r last) at r.rest)
+  whole-rest = drop-set-lt next slice index _ (omega arith) ∙ (rw (ends r last) at r.rest)
 
   whole-frame : IsEncodedFrame (take next (set slice index (next - index))) source
   whole-frame =
@@ -48,10 +48,10 @@ module _ {old source slice : List ℕ} {pos index next : ℕ} (some : 0 < length
       let r' : Reaches (start old source) slice (length source) index next IsNotFull = rw (← last) r in
       elim (cases_lt next (index + 255)) [
         | inl open' ↦ (let sum : index + (next - index) ≡ next = omega arith in
-            let after = start-after old (place_at 0 1 false) refl some (front-open (omega arith) r' open' sum refl) in
+            let after = start-after old _ refl some (front-open (omega arith) r' open' sum refl) in
             rw sum at (closed-open after refl))
         | inr full ↦ (let code : next - index ≡ 255 = omega arith in
-            let after = start-after old (place_at 0 1 false) refl some (front-filled (omega arith) (omega arith) r' refl refl) in
+            let after = start-after old _ refl some (front-filled (omega arith) (omega arith) r' refl refl) in
             rw code (closed-full after refl))
       ]
 
@@ -65,9 +65,9 @@ opened c =
     let r = c.by_part.invariant in
     let fits = whole-fits c.args.dest.now c.args.source.now (omega arith) in
     elim c.if-next-index-eq-FULL_CODE.branch [
-      | then-next-index-eq-FULL_CODE w ↦ rw (w.dest-is, w.index-is, w.next-is)
-          (omega arith, Reaches-full r (omega arith) (omega arith) (omega arith) (λ none. absurd (omega arith)))
-      | else-next-index-eq-FULL_CODE w ↦ rw (w.dest-is, w.index-is, w.next-is) (omega arith, Reaches-weaker r (λ full p none. p))
+      | goal.then-next-index-eq-FULL_CODE w ↦ rw (w.dest-is, w.index-is, w.next-is)
+          (omega arith, Reaches-full r (omega arith) (omega arith) (omega arith) (grind arith))
+      | goal.else-next-index-eq-FULL_CODE w ↦ grind arith
     ]
 
 pub by_byte-init : goal.by_byte-init
@@ -84,11 +84,11 @@ by_byte-preserved c =
     let i = c.by_byte.invariant in
     let open' = i.open' in
     elim c.if-byte-eq0.branch [
-      | then-byte-eq0 w ↦ rw (w.dest-is, w.index-is) (record {
+      | goal.then-byte-eq0 w ↦ rw (w.dest-is, w.index-is) (record {
         open' = omega arith;
-        reaches = Reaches-at refl (omega arith) refl refl (λ full p lt. p) (Reaches-zero i.reaches {Q = IsNotFull} (omega arith) (omega arith) (is ∙ w.if-byte-eq0.true) (omega arith) refl);
+        reaches = Reaches-at refl (omega arith) refl refl (λ full p lt. p) (Reaches-zero i.reaches (omega arith) (omega arith) (grind arith) (omega arith) refl);
       })
-      | else-byte-eq0 w ↦ rw (w.dest-is, w.index-is) (record {
+      | goal.else-byte-eq0 w ↦ rw (w.dest-is, w.index-is) (record {
         open' = omega arith;
         reaches = Reaches-at refl (omega arith) refl refl (λ full p lt. p) (joined byte (omega arith) i.reaches is w.if-byte-eq0.false (omega arith) (omega arith));
       })

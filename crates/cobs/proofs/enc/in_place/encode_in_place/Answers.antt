@@ -1,5 +1,5 @@
 -- The frame so far ends before the bytes that are still to be read (`encoded_len-le`), so each of these is as it was (`there`).
-use Rattle.std.proofs.Common.{◌≡◌, ◌<◌, ◌≤◌, ◌+◌, ◌-◌, ◌++◌, ℕ, List, [], ◌∷◌, drop, take, get_or, refl, sym, ◌∙◌, arith, length, length-drop, length-take}
+use Rattle.std.proofs.Common.{◌≡◌, ◌<◌, ◌≤◌, ◌+◌, ◌-◌, ◌++◌, ℕ, List, [], ◌∷◌, drop, take, get_or, sym, ◌∙◌, arith, length, length-drop, length-take}
 use Rattle.std.proofs.lemmas.List.{get_or-drop, length_push, take_more}
 use Rattle.cobs.specs.Fields.Progress.{reached_by}
 use Rattle.cobs.specs.Length.{max_encoded_len}
@@ -36,9 +36,9 @@ append_byte-requires c =
     let i = c.by_byte.invariant in
     let byte : ℕ = get_or c.by_byte.buffer (c.max_encoding_overhead-before.result + c.by_byte.taken) 0 in
     let long = length-take c.by_byte.taken (drop c.max_encoding_overhead-before.result c.args.buffer.now) in
-    let room = room-only c.by_byte.encoder (length c.by_byte.buffer) byte
+    let room = room-only c.by_byte.encoder _ byte
     (record { place = after-place i.after; fits = fits-one byte c.args.len i.after (omega arith) (omega arith) }) in
-    record { open_block = room.0; room = room.1 }
+    grind arith
 
 pub by_byte-preserved : goal.by_byte-preserved
 by_byte-preserved c =
@@ -53,19 +53,17 @@ by_byte-preserved c =
     let end = end-is i.after in
     let most = encoded_len-le (take c.by_byte.taken (drop before old)) in
     let byte : get_or c.by_byte.buffer at 0 ≡ get_or (drop before old) c.by_byte.taken 0 =
-    there (end_of r) at c.by_byte.buffer old (omega arith) i.rest ∙ sym (get_or-drop before old c.by_byte.taken 0) in
+    there _ at c.by_byte.buffer old (omega arith) i.rest ∙ sym (grind (arith, get_or-drop)) in
     let more : take (c.by_byte.taken + 1) (drop before old) ≡ take c.by_byte.taken (drop before old) ++ get_or c.by_byte.buffer at 0 ∷ [] = grind (arith, take_more) in
-    grind (arith, drop-later, end-le r, next-least r (get_or c.by_byte.buffer at 0 ∷ []) (after-place i.after).some (omega arith))
+    grind (arith, drop-later, next-least r (get_or c.by_byte.buffer at 0 ∷ []) (after-place i.after).some (omega arith))
 
 pub close_block-requires : goal.close_block-requires
 close_block-requires c = after-place c.by_byte.invariant.after
 
 pub returns : goal.returns
 returns c =
-    let all : c.by_byte.taken ≡ c.args.len = omega arith in
     let m : List ℕ = message_in c.args.len c.args.buffer.now in
-    let message : take c.by_byte.taken (drop c.max_encoding_overhead-before.result c.args.buffer.now) ≡ m = rw (all, c.max_encoding_overhead-before.ensures.overhead) refl in
-    let after : CobsEncoderAfter c.by_byte.buffer (reached_by c.by_byte.encoder) m = rw (← message) c.by_byte.invariant.after in
+    let after : CobsEncoderAfter c.by_byte.buffer (reached_by c.by_byte.encoder) m = grind arith in
     let frame = c.close_block.ensures.frame m after in
     record {
       frame = frame;

@@ -1,8 +1,6 @@
 -- A run is counted once its end is known: `open_len-run` for its bytes, and `len-end` or `len-zero` for its end.
-use Rattle.std.proofs.Common.{◌≡◌, ◌+◌, ◌/◌, ◌<◌, ℕ, List, length, drop, take, get_or, ap, subst, arith, length-drop}
-use Rattle.std.proofs.lemmas.Bool.{eqb-true}
+use Rattle.std.proofs.Common.{◌≡◌, ◌+◌, ◌/◌, ◌<◌, length, drop, arith, length-drop}
 use Rattle.std.proofs.lemmas.List.{get_or-take, get_or-drop, take_rest}
-use Rattle.cobs.specs.Grammar.{HasNoZero}
 use Rattle.cobs.specs.Length.{open_len}
 use Rattle.cobs.proofs.encoding.OpenLenLemmas.{len-end, len-zero, open_len-most, open_len-run}
 use Rattle.cobs.proofs.encoding.RoomLemmas.{skipped}
@@ -12,11 +10,7 @@ use Rattle.cobs.proofs.enc.room.fits.Goals as goal
 -- the bytes of the run join the open block
 joined : (c : After-position_or_len-more) → open_len (c.by_run.run + 1) (drop c.by_run.read c.args.source.now)
     ≡ open_len (c.by_run.run + 1 + c.position_or_len-more.result) (drop (c.by_run.read + c.position_or_len-more.result) c.args.source.now)
-joined c =
-    let source : List ℕ = c.args.source.now in
-    let rest = take_rest source c.by_run.read in
-    let nonzero = subst HasNoZero (ap (take _) rest) c.position_or_len-more.ensures.before in
-    open_len-run source c.by_run.read c.position_or_len-more.result (c.by_run.run + 1) (omega arith) (grind arith) nonzero
+joined c = grind (arith, take_rest, open_len-run)
 
 pub returns-then-spare-held-clause-fits : goal.returns-then-spare-held-clause-fits
 returns-then-spare-held-clause-fits c = grind (arith, len-end, joined (goal.at.returns-then-spare-held-clause-fits c).After-position_or_len-more)
@@ -29,11 +23,7 @@ stopped : (c : After-position_or_len-more) → c.by_run.read + c.position_or_len
     → open_len (c.by_run.run + 1) (drop c.by_run.read c.args.source.now)
     ≡ c.by_run.run + 1 + c.position_or_len-more.result + (c.by_run.run + c.position_or_len-more.result) / 254
     + open_len 1 (drop (c.by_run.read + c.position_or_len-more.result + 1) c.args.source.now)
-stopped c more =
-    let source : List ℕ = c.args.source.now in
-    let rest = take_rest source c.by_run.read in
-    let zero : get_or source (c.by_run.read + c.position_or_len-more.result) 0 ≡ 0 = grind (arith, get_or-drop) in
-    omega (arith, joined c, len-zero source (c.by_run.read + c.position_or_len-more.result) more (c.by_run.run + 1 + c.position_or_len-more.result) (omega arith) zero)
+stopped c more = grind (arith, take_rest, get_or-drop, joined, len-zero)
 
 pub overflow_add-counted-in_default : goal.overflow_add-counted-in_default
 overflow_add-counted-in_default c =
@@ -41,7 +31,7 @@ overflow_add-counted-in_default c =
 
 pub by_run-preserved-in-Some : goal.by_run-preserved-in-Some
 by_run-preserved-in-Some c =
-    grind (arith, get_or-drop, get_or-take, eqb-true, skipped)
+    grind (arith, get_or-drop, get_or-take, skipped)
 
 pub by_run-preserved : goal.by_run-preserved
 by_run-preserved c =

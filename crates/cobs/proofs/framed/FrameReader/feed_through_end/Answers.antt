@@ -27,16 +27,15 @@ pub returns-in-Some-clause-first : goal.returns-in-Some-clause-first
 returns-in-Some-clause-first g c = λ p h.
     let t = c.in-Some.ensures.takes in
     record {
-      outcome = outcome_at c.in-Some.end (g.D.FrameDecoder.bytes c.feed_piece.new.self);
-      is = c.next_at.ensures (g.D.FrameDecoder.bytes c.feed_piece.new.self) (rw t.takes.len (t.bound p h.phased));
+      outcome = outcome_at c.in-Some.end _;
+      is = grind arith;
       first = EndsFirstIn-taken _ t p h;
       decoded = HasDecoded-taken _ t p h;
     }
 
 pub returns-in-Some-clause-bound : goal.returns-in-Some-clause-bound
 returns-in-Some-clause-bound g c =
-    let t = c.in-Some.ensures.takes in
-    next_within c.next_at.result _ c.args.self.now.has_taken (λ w. (outcome_at c.in-Some.end (g.D.FrameDecoder.bytes c.feed_piece.new.self), c.next_at.ensures _ (rw t.takes.len (t.bound w.0 w.1.after.phased))))
+    next_within c.next_at.result _ c.args.self.now.has_taken (grind arith)
 
 pub returns-in-Some-clause-idle : goal.returns-in-Some-clause-idle
 returns-in-Some-clause-idle g c = DecoderAfter-idle _ _ c.in-Some.ensures.takes.idle
@@ -46,7 +45,7 @@ invariant_of-self-clause-has_taken g c = ∥∥₁_map c.args.self.now.has_taken
   _,
   record {
     after = c.in-None.ensures.takes.takes.after w.0 w.1.after;
-    flag = c.is_unfinished-self.ensures.unfinished w.0 w.1.flag w.1.after.phased.piece;
+    flag = grind arith;
   },
 ))
 

@@ -1,37 +1,37 @@
 -- A call begins without a read (`Going-start`), and each read that ends no piece adds one read (`Going-push`). For each
 -- way in which the call can end, `ReadingLemmas` has a lemma whose name begins with `ReadsNext`: kept bytes, a failure,
 -- the end of the source, a piece, too many reads. No step changes which buffer the decoder was lent (`same_loan`).
-use Rattle.std.proofs.Common.{◌≡◌, ◌≤◌, [], ◌∙◌, sym, subst, take, length-take, Some, arith}
-use Rattle.cobs.proofs.streaming.ReadingLemmas.{Going-start, Going-push, ReadsNext-kept, ReadsNext-failed, ReadsNext-end, ReadsNext-piece, ReadsNext-too_many, front_nonempty, front_rest, empty_range, left_of_range}
+use Rattle.std.proofs.Common.{◌≡◌, [], subst, take, Some, arith}
+use Rattle.cobs.proofs.streaming.ReadingLemmas.{Going-start, Going-push, ReadsNext-kept, ReadsNext-failed, ReadsNext-end, ReadsNext-piece, ReadsNext-too_many, front_rest, empty_range, left_of_range}
 use Rattle.cobs.proofs.framed.FrameReader.next_frame.Goals as goal
 
 pub returns-in-Some-clause-next : goal.returns-in-Some-clause-next
-returns-in-Some-clause-next g c = grind (arith, ReadsNext-kept, length-take, left_of_range)
+returns-in-Some-clause-next g c = grind (arith, ReadsNext-kept, left_of_range)
 
 pub by_read-init : goal.by_read-init
-by_read-init g c = grind (arith, Going-start, empty_range)
+by_read-init g c = grind (arith, Going-start)
 
 pub returns-in-None-clause-next : goal.returns-in-None-clause-next
-returns-in-None-clause-next g c = ReadsNext-failed _ (empty_range _ _ _ c.by_read.invariant.emptied) (omega arith) c.by_read.invariant.going c.in-None.ensures.step
+returns-in-None-clause-next g c = ReadsNext-failed _ (grind arith) (omega arith) c.by_read.invariant.going c.in-None.ensures.step
 
 pub returns-in-Some-eq0-clause-next : goal.returns-in-Some-eq0-clause-next
 returns-in-Some-eq0-clause-next g c =
     let step : g.S.FrameSource.step c.by_read.source (Some []) c.read_some.new.self
     = subst (λ k. g.S.FrameSource.step c.by_read.source (Some (take k c.read_some.new.chunk)) c.read_some.new.self) c.in-Some-eq0.field-0-test c.in-Some-eq0.ensures.step in
-    ReadsNext-end _ (empty_range _ _ _ c.by_read.invariant.emptied) (omega arith) c.by_read.invariant.going step
+    ReadsNext-end _ (grind arith) (omega arith) c.by_read.invariant.going step
 
 pub by_read-preserved : goal.by_read-preserved
 by_read-preserved g c =
     let r = c.feed_through_end-in-Some-read_some.new.self in
     let e = c.in_default-feed_through_end.ensures in
-    let emptied : r.start ≡ r.end = e.same_start ∙ c.by_read.invariant.emptied ∙ sym e.same_end in
+    let emptied : r.start ≡ r.end = grind arith in
     record {
       emptied = emptied;
-      going = Going-push (take _ _) _ (front_nonempty _ _ (rw c.read_some.array_long c.in-Some-read_some.ensures.bound) c.in-Some-read_some.n-test.1) c.by_read.invariant.going
+      going = Going-push _ _ (grind arith) c.by_read.invariant.going
           c.in-Some-read_some.ensures.step e.len (λ q b.
           let t = e.none q b in
           (record { none_ended = t.0.none_ended; after = t.0.after; nothing_kept = empty_range r.chunk r.start r.end emptied }, t.1));
-      same_loan = e.same_loan ∙ c.by_read.invariant.same_loan;
+      same_loan = grind arith;
     }
 
 pub returns-in-Some-feed_through_end-clause-next : goal.returns-in-Some-feed_through_end-clause-next
@@ -39,9 +39,8 @@ returns-in-Some-feed_through_end-clause-next g c =
     let n = c.in-Some-read_some.n in
     let chunk = c.read_some.new.chunk in
     let e = c.in-Some-feed_through_end.ensures in
-    let within : c.in-Some-feed_through_end.count ≤ n = omega (arith, e.within, length-take n chunk) in
-    ReadsNext-piece (take n chunk) _ (omega arith) c.by_read.invariant.going c.in-Some-read_some.ensures.step e.len
-    (rw (← front_rest chunk n c.in-Some-feed_through_end.count within) e.first) e.idle
+    ReadsNext-piece _ _ (omega arith) c.by_read.invariant.going c.in-Some-read_some.ensures.step e.len
+    (grind (arith, front_rest)) e.idle
 
 pub returns-clause-next : goal.returns-clause-next
 returns-clause-next g c = ReadsNext-too_many (omega arith) c.by_read.invariant.going

@@ -24,8 +24,8 @@ module _ {buffer buffer' : List ℕ} {phase phase' : Phase} {end : PieceEnd} {co
 
 pub returns : goal.returns
 returns c = record {
-  outcomes = λ buffer buffer' bytes phase phase' end count t idle. reported_first bytes t idle;
-  left = λ buffer buffer' bytes phase phase' end count t. left_behind bytes t;
+  outcomes = grind (arith, reported_first);
+  left = grind (arith, left_behind);
   none = λ buffer buffer' bytes phase phase' t idle. sym (t.takes.outcomes [] (DecoderAfter-idle buffer phase idle));
   after = λ buffer buffer' bytes phase phase' t idle. t.takes.after [] (DecoderAfter-idle buffer phase idle);
 }

@@ -1,6 +1,6 @@
 -- The three steps of `OpenedLemmas` for the open block that an `EncoderState` stands for (`view_is`). A frame with a
 -- placeholder is an output, so `after` follows from `carried`.
-use Rattle.std.proofs.Common.{set, refl, arith}
+use Rattle.std.proofs.Common.{refl, arith}
 use Rattle.cobs.proofs.encoding.OpenedLemmas.{open-zero, open-more, open-full}
 use Rattle.cobs.proofs.enc.state.EncoderState.push.Goals as goal
 
@@ -9,18 +9,18 @@ returns-then-self-clause-carried c = λ m g x o. let o' = rw (← c.self.view_is
 
 pub returns-then-self-clause-after : goal.returns-then-self-clause-after
 returns-then-self-clause-after c = λ m o.
-    let r = returns-then-self-clause-carried c m (set o.0 c.args.self.now.index 0) 0 (o.0, o.1, (0, refl)) in (r.0, r.1)
+    let r = returns-then-self-clause-carried c m _ 0 (o.0, o.1, (0, refl)) in (r.0, r.1)
 
 pub returns-then-byte-ne0-clause-carried : goal.returns-then-byte-ne0-clause-carried
-returns-then-byte-ne0-clause-carried c = λ m g x o. let o' = rw (← c.self.view_is) at o in open-more o' c.args.byte c.if-byte-ne0.true (λ is. c.if-self.false (omega arith))
+returns-then-byte-ne0-clause-carried c = λ m g x o. let o' = rw (← c.self.view_is) at o in open-more o' c.args.byte c.if-byte-ne0.true (grind arith)
 
 pub returns-then-byte-ne0-clause-after : goal.returns-then-byte-ne0-clause-after
 returns-then-byte-ne0-clause-after c = λ m o.
-    let r = returns-then-byte-ne0-clause-carried c m (set o.0 c.args.self.now.index 0) 0 (o.0, o.1, (0, refl)) in (r.0, r.1)
+    let r = returns-then-byte-ne0-clause-carried c m _ 0 (o.0, o.1, (0, refl)) in (r.0, r.1)
 
 pub returns-clause-carried : goal.returns-clause-carried
 returns-clause-carried c = λ m g x o. let o' = rw (← c.self.view_is) at o in rw c.if-byte-ne0.false (open-zero o' x)
 
 pub returns-clause-after : goal.returns-clause-after
 returns-clause-after c = λ m o.
-    let r = returns-clause-carried c m (set o.0 c.args.self.now.index 0) 0 (o.0, o.1, (0, refl)) in (r.0, r.1)
+    let r = returns-clause-carried c m _ 0 (o.0, o.1, (0, refl)) in (r.0, r.1)

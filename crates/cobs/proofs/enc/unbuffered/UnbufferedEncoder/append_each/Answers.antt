@@ -6,7 +6,6 @@ use Rattle.cobs.specs.Internal.Taking.{TakesFront}
 use Rattle.cobs.specs.OpenBlock.{Reached, end_after, place_at}
 use Rattle.cobs.proofs.encoding.ByteLemmas.{byte-fills, byte-joins, byte-zero}
 use Rattle.cobs.proofs.encoding.TakingLemmas.{front-next}
-use Rattle.cobs.proofs.enc.unbuffered.UnbufferedEncoder.append_each.Goals.{then-byte-ne0, else-byte-ne0, then-byte-eq0, then-byte-eq0-via-then-byte-eq0, then-byte-eq0-via-else-byte-eq0+then-left-eq0, else-byte-eq0+else-left-eq0}
 use Rattle.cobs.proofs.enc.unbuffered.UnbufferedEncoder.append_each.Goals as goal
 
 -- the byte after the first i is taken too; the slice after it has two names
@@ -26,30 +25,30 @@ by_byte-preserved c =
     let fits : end_after (place_at c.by_byte.index (c.by_byte.next - c.by_byte.index) i.taken.0) left ≤ length c.by_byte.dest = omega arith in
     let at : c.by_byte.next ≡ c.by_byte.index + (c.by_byte.next - c.by_byte.index) = omega arith in
     elim c.if-byte-ne0.branch [
-      | then-byte-ne0 a ↦ elim c.if-byte-eq0.branch [
-        | then-byte-eq0 w ↦ elim w.then-byte-eq0.branch [
-          | then-byte-eq0-via-then-byte-eq0 v ↦ absurd (a.if-byte-ne0.true v.if-byte-eq0.true)
-          | then-byte-eq0-via-else-byte-eq0+then-left-eq0 v ↦ record {
+      | goal.then-byte-ne0 a ↦ elim c.if-byte-eq0.branch [
+        | goal.then-byte-eq0 w ↦ elim w.then-byte-eq0.branch [
+          | goal.then-byte-eq0-via-then-byte-eq0 v ↦ absurd (a.if-byte-ne0.true v.if-byte-eq0.true)
+          | goal.then-byte-eq0-via-else-byte-eq0+then-left-eq0 v ↦ record {
             ordered = omega arith;
             short = omega arith;
             left = omega arith;
             taken = (true, λ lt. grind arith, next c.by_byte.i t (grind arith) (byte-fills {source = left} t.place fits some at (λ e. a.if-byte-ne0.true (sym is ∙ e)) (omega arith) (grind arith)));
           }
         ]
-        | else-byte-eq0+else-left-eq0 w ↦ record {
+        | goal.else-byte-eq0+else-left-eq0 w ↦ record {
           ordered = omega arith;
           short = omega arith;
           left = omega arith;
           taken = (false, λ lt. grind arith, next c.by_byte.i t (grind arith) (byte-joins {source = left} t.place fits some at {code = c.if-byte-eq0.next - c.if-byte-eq0.index} (λ e. a.if-byte-ne0.true (sym is ∙ e)) (omega arith) (omega arith) (grind arith)));
         }
       ]
-      | else-byte-ne0 a ↦ elim c.if-byte-eq0.branch [
-        | then-byte-eq0 w ↦ record {
+      | goal.else-byte-ne0 a ↦ elim c.if-byte-eq0.branch [
+        | goal.then-byte-eq0 w ↦ record {
           ordered = omega arith;
           short = omega arith;
           left = omega arith;
           taken = (false, λ lt. grind arith, next c.by_byte.i t (grind arith) (byte-zero {source = left} t.place fits some at (is ∙ a.if-byte-ne0.false) refl (grind arith)));
         }
-        | else-byte-eq0+else-left-eq0 w ↦ absurd (w.if-byte-eq0.false a.if-byte-ne0.false)
+        | goal.else-byte-eq0+else-left-eq0 w ↦ absurd (w.if-byte-eq0.false a.if-byte-ne0.false)
       ]
     ]

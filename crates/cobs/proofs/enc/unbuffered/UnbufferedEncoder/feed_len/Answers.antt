@@ -6,13 +6,13 @@ use Rattle.cobs.specs.Internal.Taking.{TakesFront}
 use Rattle.cobs.proofs.encoding.ByteLemmas.{has-room, room-only}
 use Rattle.cobs.proofs.encoding.TakingLemmas.{all-after, all-rest}
 use Rattle.cobs.proofs.encoding.AfterLemmas.{after-end, after-place}
-use Rattle.cobs.proofs.enc.unbuffered.UnbufferedEncoder.feed_len.Goals.{Joined-then-code-gt-FULL_BLOCK_BYTES, After-append_byte, then-code-gt-FULL_BLOCK_BYTES-via-then-code-gt-FULL_BLOCK_BYTES}
+use Rattle.cobs.proofs.enc.unbuffered.UnbufferedEncoder.feed_len.Goals.{Joined-then-code-gt-FULL_BLOCK_BYTES, After-append_byte}
 use Rattle.cobs.proofs.enc.unbuffered.UnbufferedEncoder.feed_len.Goals as goal
 
 -- after one of the tests failed there is no room
 none : (c : Joined-then-code-gt-FULL_BLOCK_BYTES) → HasRoomFor (length c.args.dest.now) (reached_by c.args.self.now) (c.args.byte ∷ []) → ⊥
 none c h =
-    grind (arith, room-only c.args.self.now (length c.args.dest.now) c.args.byte h)
+    grind (arith, room-only c.args.self.now _ c.args.byte h)
 
 pub returns-then-code-gt-FULL_BLOCK_BYTES-clause-room : goal.returns-then-code-gt-FULL_BLOCK_BYTES-clause-room
 returns-then-code-gt-FULL_BLOCK_BYTES-clause-room c = (λ t. cc, λ h. absurd (none c h))
@@ -34,7 +34,7 @@ returns c =
     let t = taken after in
     let fits = (room after).fits in
     record {
-      room = (λ t. room after, λ h. refl);
+      room = grind arith;
       fits = λ m h. (let end = after-end h (c.args.byte ∷ []) in (λ t. omega arith, λ le. refl));
       taken = all-after t;
       rest = all-rest t;

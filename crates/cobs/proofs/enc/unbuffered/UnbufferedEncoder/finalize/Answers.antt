@@ -3,7 +3,6 @@
 use Rattle.std.proofs.Common.{arith}
 use Rattle.cobs.proofs.encoding.AfterLemmas.{after-place, closed-full, closed-open, end-is}
 use Rattle.cobs.proofs.format.SentinelLemmas.{encoded_nonzero}
-use Rattle.cobs.proofs.enc.unbuffered.UnbufferedEncoder.finalize.Goals.{then-self-eq0, else-self-eq0}
 use Rattle.cobs.proofs.enc.unbuffered.UnbufferedEncoder.finalize.Goals as goal
 
 pub returns-then-not-is_within-clause-fits : goal.returns-then-not-is_within-clause-fits
@@ -12,16 +11,13 @@ returns-then-not-is_within-clause-fits c = λ m h. cc (c.is_within.ensures.1 (af
 pub returns-clause-len : goal.returns-clause-len
 returns-clause-len c = λ m h.
     let end = end-is h in
-    elim c.if-self-eq0.branch [
-      | then-self-eq0 w ↦ grind arith
-      | else-self-eq0 w ↦ grind arith
-    ]
+    grind arith
 
 pub returns-clause-frame : goal.returns-clause-frame
 returns-clause-frame c = λ m h.
     elim c.if-self-eq0.branch [
-      | then-self-eq0 w ↦ rw (w.len-is, w.dest-is) (closed-open h (grind arith))
-      | else-self-eq0 w ↦ rw (w.len-is, w.dest-is) (closed-full h (grind arith))
+      | goal.then-self-eq0 w ↦ rw (w.len-is, w.dest-is) (closed-open h (grind arith))
+      | goal.else-self-eq0 w ↦ rw (w.len-is, w.dest-is) (closed-full h (grind arith))
     ]
 
 pub returns-clause-no_sentinel : goal.returns-clause-no_sentinel

@@ -1,14 +1,11 @@
 -- Only the clause `fits` is proved here, as for `push`: the length of the frame of all bytes so far is `end_after`
 -- (`after-end`), and `has_room` compares that index with the slice (`end-with`). An encoder that has taken a message has a
 -- possible state (`after-place`), so it takes a push of no bytes.
-use Rattle.std.proofs.Common.{append-nil, [], ◌≡◌, ◌≢◌, length, refl, sym, ◌∙◌, arith}
-use Rattle.std.proofs.lemmas.Bool.{eqb-false}
+use Rattle.std.proofs.Common.{append-nil, [], ◌≡◌, ◌≢◌, length, refl, arith}
 use Rattle.std.proofs.lemmas.Grind.{common_steps}
 use Rattle.cobs.proofs.encoding.ByteLemmas.{end-with, place-short}
 use Rattle.cobs.proofs.encoding.AfterLemmas.{after-end, after-fits, after-place}
-use Rattle.cobs.proofs.encoding.TakingLemmas.{all-end}
 use Rattle.cobs.proofs.enc.unbuffered.UnbufferedEncoder.push_each.Goals as goal
-use Rattle.cobs.proofs.enc.unbuffered.UnbufferedEncoder.push_each.Goals.{then-self-gt253-via-then-self-gt253}
 
 pub returns-then-self-gt253-clause-fits : goal.returns-then-self-gt253-clause-fits
 returns-then-self-gt253-clause-fits c = λ m h.
@@ -26,12 +23,9 @@ returns-then-is_empty-clause-fits c = λ m h. grind (arith, after-place h)
 pub returns-then-not-has_room-clause-fits : goal.returns-then-not-has_room-clause-fits
 returns-then-not-has_room-clause-fits c = λ m h.
     let e = after-end h c.args.bytes.now in
-    let some : length c.args.bytes.now ≢ 0 = eqb-false _ 0 (sym c.is_empty.ensures ∙ c.if-is_empty.false) in
+    let some : length c.args.bytes.now ≢ 0 = grind arith in
     let end = end-with c.args.self.now c.args.bytes.now (place-short c.args.self.now _ (after-place h)) (omega arith) in
     (λ t. cc, λ le. cc (c.has_room.ensures.fits.1 (omega arith)))
 
 pub returns-clause-fits : goal.returns-clause-fits
-returns-clause-fits c = λ m h.
-    let e = after-end h c.args.bytes.now in
-    let end = all-end c.append_each.ensures in
-    (λ t. omega arith, λ le. refl)
+returns-clause-fits c = grind (arith, after-end)
