@@ -255,8 +255,8 @@ impl UnbufferedDecoder {
     ///
     /// - There are at least 2 bytes.
     /// - `dest` has room for the output of the bytes.
-    /// - The first 32 bytes aren't all codes 01. Such bytes are decoded faster by [`take_run`](Self::take_run), which
-    ///   decodes rows of 32 codes in one step.
+    /// - The first 32 bytes aren't all codes 01. Rows of codes 01 are decoded faster by [`take_run`](Self::take_run),
+    ///   which decodes 32 of these codes in one step.
     #[inline(always)]
     pub(crate) fn take_front(&mut self, dest: &mut [u8], bytes: &[u8]) -> bool
         requires idle { phase_of self.old ≡ Idle }

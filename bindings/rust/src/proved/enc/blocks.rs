@@ -1,7 +1,7 @@
 // Made by bindings/rust/translate.py from `crates/cobs/src/enc/blocks.rt`: change that file, and run it again.
-//! Cuts a message into blocks: the core of the encoders that write to a slice, on targets with SIMD vectors. A *window*
-//! is 32 bytes that are copied in one step. The *mask* of a window is a number with one bit for each byte of the
-//! window; the bit is 1 if the byte is a zero.
+//! Cuts a message into blocks. On targets with SIMD vectors, these functions are the core of the encoders that write to
+//! a slice. A *window* is 32 bytes that are copied in one step. The *mask* of a window is a number with one bit for
+//! each byte of the window; the bit is 1 if the byte is a zero.
 
 use crate::proved::block::{FULL_BLOCK_BYTES, FULL_CODE};
 use crate::proved::cobs_bytes::window::{
@@ -289,8 +289,8 @@ pub(crate) fn close_block(dest: &mut [u8], encoder: &UnbufferedEncoder) -> usize
 }
 
 /// Writes the code of the open block, unless the frame ends with a full block, and returns the frame's length, as
-/// [`close_block`] does. If the frame ends with a full block, and the target has SIMD vectors, `close` also stores the
-/// next byte of the slice, if there is one. It stores the value that this byte already has.
+/// [`close_block`] does. If the frame ends with a full block, the slice may have a byte after the frame. On a target
+/// with SIMD vectors, `close` then also stores this byte, with the value that the byte already has.
 // With this store, compilers keep the caller's loop over single bytes as it is written. If only an open block's code
 // were stored, this loop would be slower in the Rust crate on x86-64. On a target without vectors `close` calls
 // `close_block`, which needs fewer bytes of flash.
