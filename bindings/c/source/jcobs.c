@@ -417,7 +417,8 @@ static size_t jcobs_leading_zeros(const unsigned char *source, size_t source_len
     return source_len;
 }
 
-/* Returns the index after the first zero at index `at` or later, or the source's length if there is no such zero. */
+/* Finds the first zero of the source from index `at` on. Returns the index after this zero, or the source's length
+ * if there is no zero from `at` on. */
 static JCOBS_APART size_t jcobs_find_end(const unsigned char *source, size_t source_len, size_t at)
 {
     size_t end = at;

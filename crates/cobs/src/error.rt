@@ -6,7 +6,8 @@ use serde::{Deserialize, Serialize};
 use std::alloc::AllocError;
 use thiserror::Error;
 
-/// The error of an encoder: the frame is longer than the slice to which it should be written.
+/// The error of an encoder: the frame is longer than the slice to which it should be written, or the encoder's state
+/// isn't possible in a slice of this length.
 ///
 /// ```
 /// let text = DestBufTooSmallError.to_string(alloc)?;

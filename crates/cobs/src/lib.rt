@@ -4,11 +4,11 @@
 //! byte value is the delimiter; this library calls it the sentinel. The sentinel marks the end of each frame on a
 //! serial line or in a file. If a frame is damaged, the receiver waits for the next sentinel and reads the frame after
 //! that sentinel. A frame is a list of blocks. A block is a code followed by up to 254 nonzero bytes. The code is the
-//! length of the block in bytes, including the code itself. The boundary of two blocks stands for a zero of the
-//! message, unless the first of these two blocks is full. A block with the code 255 is full: 254 nonzero bytes follow
-//! its code. The frame of a message of up to 254 bytes is one byte longer than the message. The frame of a longer
-//! message, of `n` bytes, is at most `n / 254` (rounded up) bytes longer than the message. The format is that of the
-//! paper "Consistent Overhead Byte Stuffing" by Stuart Cheshire and Mary Baker.
+//! length of the block in bytes, including the code itself. A block with the code 255 is full: 254 nonzero bytes follow
+//! its code. The boundary of two blocks stands for a zero of the message, unless the first of these two blocks is full.
+//! The frame of a message of up to 254 bytes is one byte longer than the message. The frame of a longer message, of `n`
+//! bytes, is at most `n / 254` (rounded up) bytes longer than the message. The format is that of the paper "Consistent
+//! Overhead Byte Stuffing" by Stuart Cheshire and Mary Baker.
 //!
 //! This example encodes a message, and then decodes the frame:
 //!
@@ -123,8 +123,9 @@ pub use stream::{FrameOutcome, decode_stream, encode_frames, encode_frames_room}
 /// overhead of a frame is its length minus the length of its message.
 ///
 /// The greatest overhead is `source_len / 254`, rounded up, or 1 if the message is empty. A message without zeros has
-/// this overhead: its frame has one code for each group of up to 254 bytes, and at least one code. Sentinels before and
-/// after the frame aren't counted. The bound is that of the paper by Cheshire and Baker.
+/// this overhead, because its frame has one code for every 254 bytes, and one code for the remaining bytes, if any. The
+/// frame of the empty message has one code. Sentinels before and after the frame aren't counted. The bound is that of
+/// the paper by Cheshire and Baker.
 ///
 /// ```
 /// assert_eq!(rt; max_encoding_overhead(0), 1);

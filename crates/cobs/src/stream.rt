@@ -1,10 +1,11 @@
 //! Calls for whole streams: `decode_stream` decodes all pieces that end in the next bytes of a stream, and
 //! `encode_frames` encodes several messages.
 //!
-//! A stream is cut at its zeros. One or more bytes between a zero and the next zero are a piece. Each piece is decoded
-//! separately: a piece is a frame, breaks off inside a block, or decodes to more bytes than the buffer has room for. So
-//! damage to one piece has no effect after the next zero. (The rule that a zero ends each frame is from Cheshire and
-//! Baker's paper; how broken and too long pieces are reported is a choice of this library.)
+//! A stream is cut at its zeros. A piece is the bytes, at least one, between two neighbouring zeros or before the first
+//! zero. A piece is a frame, breaks off inside a block, or decodes to more bytes than the buffer has room for. Each
+//! piece is decoded separately, so damage to one piece has no effect after the next zero. (The rule that a zero ends
+//! each frame is from Cheshire and Baker's paper; how broken and too long pieces are reported is a choice of this
+//! library.)
 ghost use Rattle.std.specs.Prelude.{◌≡◌, ℕ, ◌+◌, ◌<◌, ◌≤◌, ◌^◌, List, [], ◌++◌, All, length, map, take, option_to_list, IfOk, IfSome, IsOk, IsSome, ◌↔◌, OnOk, OnErr, Contains};
 ghost use Rattle.cobs.specs.Feed.{DecoderAfter, PhaseAfter};
 ghost use Rattle.cobs.specs.Length.{max_encoded_len};
@@ -153,9 +154,9 @@ pub fn encode_frames(alloc: Global, messages: &[Vec<u8>]) -> Result<Vec<u8>, All
     Ok(frames)
 }
 
-/// Returns a number of bytes that is enough for the frames of the messages, with a zero after each frame. For each
-/// message, the number includes [`max_encoding_length`](crate::max_encoding_length) of the message's length, plus 1 for
-/// the zero. Returns `None` if the number doesn't fit a `usize`.
+/// Returns a number of bytes that is enough for the frames of the messages, with a zero after each frame. The number is
+/// a sum with two terms per message: [`max_encoding_length`](crate::max_encoding_length) of the message's length, and 1
+/// for the zero. Returns `None` if the number doesn't fit a `usize`.
 ///
 /// Call [`encode_frames`] only if this function returns `Some(n)`; `encode_frames` then allocates `n` bytes.
 /// `encode_frames_room` itself allocates nothing.

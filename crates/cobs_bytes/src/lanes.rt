@@ -7,7 +7,7 @@ use crate::window::{WIDE_WINDOW, by_width};
 use std::simd::prelude::*;
 
 /// Moves `len` bytes from index `from` to the front of the buffer, as two vectors that may overlap. `len` is from `N`
-/// to `2 * N`. Both vectors are loaded before one of them is stored, so the old and the new place of the bytes may
+/// to `2 * N`. Both vectors are loaded before either of them is stored, so the old and the new place of the bytes may
 /// overlap.
 #[inline(always)]
 fn move_two<const N: usize>(buffer: &mut [u8], from: usize, len: usize)
@@ -37,8 +37,9 @@ pub fn move_to_front(buffer: &mut [u8], from: usize, len: usize)
     }
 }
 
-/// Copies the source's bytes to `dest`, each XORed with `sentinel`, but only if none of them is the sentinel. Returns
-/// whether the bytes were copied. The source has `N` to `2 * N` bytes. They are copied as two vectors that may overlap.
+/// Copies the source's bytes to `dest`, each XORed with `sentinel`. If one of the source's bytes is the sentinel,
+/// nothing is copied. Returns whether the bytes were copied. The source has `N` to `2 * N` bytes. They are copied as
+/// two vectors that may overlap.
 #[inline(always)]
 fn copy_xored_two<const N: usize>(source: &[u8], dest: &mut [u8], sentinel: u8) -> bool
     requires lanes { N ≤ 64 }
@@ -63,8 +64,8 @@ fn copy_xored_two<const N: usize>(source: &[u8], dest: &mut [u8], sentinel: u8) 
     true
 }
 
-/// Copies the source's bytes, at most 64, to `dest`, each XORed with `sentinel`, but only if none of them is the
-/// sentinel. Returns whether the bytes were copied.
+/// Copies the source's bytes, at most 64, to `dest`, each XORed with `sentinel`. If one of the source's bytes is the
+/// sentinel, nothing is copied. Returns whether the bytes were copied.
 #[inline(always)]
 pub fn copy_xored_short(source: &[u8], dest: &mut [u8], sentinel: u8) -> bool
     requires some { 0 < length source.now }

@@ -27,8 +27,8 @@ pub extern "C" fn jcobs_max_length(message_len: usize) -> usize
 }
 
 /// Encodes a message of any length to the front of the buffer `frame`. Returns the number of consumed bytes and the
-/// length of the frame. Both are 0 if the frame doesn't fit. This code is a separate function, so that [`jcobs_encode`]
-/// saves no registers before it encodes a short message.
+/// length of the frame. Both numbers are 0 if the frame doesn't fit. This code is a separate function, so that
+/// [`jcobs_encode`] saves no registers before it encodes a short message.
 #[inline(never)]
 fn encode_long(message: &[u8], frame: &mut [u8]) -> (usize, usize)
     ensures encodes { Encodes message.now frame.old
@@ -41,7 +41,8 @@ fn encode_long(message: &[u8], frame: &mut [u8]) -> (usize, usize)
     }
 }
 
-/// Writes the frame of the message to the front of the buffer `frame`, if it fits. Otherwise nothing is written.
+/// Writes the frame of the message to the front of the buffer `frame`, if the message's frame fits. Otherwise nothing
+/// is written.
 #[unsafe(no_mangle)]
 #[inline(always)]
 pub extern "C" fn jcobs_encode(message: &[u8], frame: &mut [u8]) -> Answer
@@ -72,8 +73,8 @@ pub extern "C" fn jcobs_encode(message: &[u8], frame: &mut [u8]) -> Answer
     }
 }
 
-/// Writes the frame of the message for this sentinel to the front of the buffer `frame`, if it fits. Otherwise nothing
-/// is written.
+/// Writes the frame of the message for this sentinel to the front of the buffer `frame`, if the message's frame fits.
+/// Otherwise nothing is written.
 #[unsafe(no_mangle)]
 pub extern "C" fn jcobs_encode_with_sentinel(
     message: &[u8],

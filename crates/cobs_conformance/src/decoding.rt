@@ -116,7 +116,7 @@ pub fn frame_kind(alloc: Global, arguments: &[&str]) -> Result<CallResult, CaseF
 }
 
 /// Returns three words for the result of a call that returns a message in a vector: `ok`, the length and the message.
-/// For an error, returns its name, its number of decoded bytes (or `-`), and `-`.
+/// For an error, the three words are its name, its number of decoded bytes (or `-` if it has no such number), and `-`.
 fn said_message(
     alloc: Global,
     decoded: Result<Vec<u8>, DecodeVecError>,

@@ -8,8 +8,8 @@ use std::alloc::Global;
 /// Pushes a message and then one more byte to an `EncoderState`. Returns the result of the last push, the index and the
 /// code that `finalize` returns, and the frame that a caller builds from all results.
 ///
-/// Returns `NotCallable` if `can_push` is false before a push, because `push` requires that it is true. It is false
-/// only if the index of the next block may be too great for a `usize`.
+/// Returns `NotCallable` if `can_push` is false before a push, because `push` requires that `can_push` is true.
+/// `can_push` is false only if the index of the next block may be too great for a `usize`.
 pub fn encoder_state(alloc: Global, arguments: &[&str]) -> Result<CallResult, CaseFault> {
     let [message, byte] = arguments else {
         return Err(CaseFault::Malformed);

@@ -1,10 +1,10 @@
-//! Counts the cases, and the cases whose result differs.
+//! Counts the cases, and the cases whose result differs from the expected result.
 ghost use Rattle.std.specs.Prelude.{◌≡◌, ◌+◌, ◌<◌, ◌++◌, ◌↔◌, IsTrue, IfOk, codes, if◌then◌else◌, string_bytes};
 ghost use Rattle.std.specs.Fmt.{decimal};
 
 use std::alloc::{AllocError, Global};
 
-/// The number of cases, and the number of cases whose result differs.
+/// The number of cases, and the number of cases whose result differs from the expected result.
 #[derive(Debug, Drop)]
 pub struct Tally {
     pub cases: u64,

@@ -19,7 +19,7 @@ pub struct Checksum {
     /// Every checksum has 1 to 4 bytes.
     ghost sized: { (0 < params.size) × (params.size ≤ 4) },
 
-    /// The table belongs to the polynomial.
+    /// `words` is the table of the polynomial `params.poly`.
     ghost table: { IsTable params.poly words },
 }
 

@@ -84,7 +84,7 @@ impl Composed {
         self.len = 0;
     }
 
-    /// Returns whether the line of another short message might not fit.
+    /// Returns true if there may be too little room for the line of another short message.
     #[inline(always)]
     pub fn is_nearly_full(&self) -> bool {
         ROOM - LINE - 2 * SHORT_LEN < self.len
@@ -94,7 +94,7 @@ impl Composed {
     /// conditions hold:
     ///
     /// - The piece is a short message, and its text fits.
-    /// - The view shows raw messages without numbers, or digits without colours, numbers and times.
+    /// - The view has the style `Raw` without numbers, or the style `Hex` without colours, numbers and times.
     ///
     /// If the view's filter hides the message, its text is empty. The text is written later, so one write can contain
     /// the text of many messages. The text has no number and no time, so the clause `kept` is true for every `number`
@@ -340,7 +340,7 @@ impl Composed {
     }
 
     /// Adds a decimal number. The caller makes sure that there are 40 bytes of room, more than any number needs. A
-    /// number below 10 is added without `itoa`, which is faster.
+    /// number below 10 is added without `itoa`, because this is faster.
     #[inline(always)]
     fn append_decimal(&mut self, number: u64)
         requires room { self.old.len + 40 ≤ 2048 }

@@ -9,8 +9,8 @@ use cobs_lines::write_digits;
 use std::io::{self, Write};
 use unicode::properties::GeneralCategory;
 
-/// Returns whether a character is hidden: a control character, or an invisible one that formats text or separates lines
-/// or paragraphs.
+/// Returns whether a character is hidden: a control character, or an invisible character that formats text or separates
+/// lines or paragraphs.
 pub fn is_hidden(c: char) -> bool
     ensures hidden { result ≡ is_hidden c }
 {

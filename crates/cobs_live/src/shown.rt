@@ -114,8 +114,8 @@ pub struct Settings {
     pub skip_first: bool,
 }
 
-/// Converts the end of a piece to a [`Sight`]. The front of `buffer` has the bytes that the piece decodes to. If there
-/// is a checksum, a message should end with it.
+/// Converts the end of a piece to a [`Sight`]. The front of `buffer` has the bytes that the piece decodes to, as far as
+/// they fit. If there is a checksum, a message should end with it.
 pub fn sight_of<'a>(checksum: &Option<Checksum>, end: PieceEnd, buffer: &'a [u8]) -> Sight<'a>
     requires within { IsWithin (length buffer.now) end }
     ensures seen { seen_in result ≡ seen_of checksum.now (outcome_at end buffer.now) }
@@ -262,7 +262,7 @@ pub fn show_end<W: Write>(output: &mut W, view: &View, unfinished: bool) -> io::
     }
 }
 
-/// Shows that a line hung up. If a piece had begun and not ended, `unfinished` is shown first.
+/// Shows that a serial line hung up. If a piece had begun and not ended, `unfinished` is shown first.
 pub fn show_hang_up<W: Write>(output: &mut W, view: &View, unfinished: bool) -> io::Result<()>
     ensures shown { OnOk result (Appends (W.contents output.old) (W.contents output.new)
         (shown_hang_up view.now unfinished)) }
@@ -271,7 +271,7 @@ pub fn show_hang_up<W: Write>(output: &mut W, view: &View, unfinished: bool) -> 
     write_hung_up(output, view)
 }
 
-/// Writes the text that says that a line hung up, unless the filter hides this text.
+/// Writes the text that says that a serial line hung up, unless the filter hides this text.
 fn write_hung_up<W: Write>(output: &mut W, view: &View) -> io::Result<()>
     ensures written { OnOk result (Appends (W.contents output.old) (W.contents output.new)
         (if view.now.filter.unfinished then hung_up_in view.now.style else [])) }

@@ -1,7 +1,8 @@
 // Made by bindings/rust/translate.py from `crates/cobs/src/error.rt`: change that file, and run it again.
 //! Errors, and the sizes of a decoded message.
 
-/// The error of an encoder: the frame is longer than the slice to which it should be written.
+/// The error of an encoder: the frame is longer than the slice to which it should be written, or the encoder's state
+/// isn't possible in a slice of this length.
 ///
 /// ```
 /// use jcobs::DestBufTooSmallError;

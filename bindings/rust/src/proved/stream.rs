@@ -2,10 +2,11 @@
 //! Calls for whole streams: `decode_stream` decodes all pieces that end in the next bytes of a stream, and
 //! `encode_frames` encodes several messages.
 //!
-//! A stream is cut at its zeros. One or more bytes between a zero and the next zero are a piece. Each piece is decoded
-//! separately: a piece is a frame, breaks off inside a block, or decodes to more bytes than the buffer has room for. So
-//! damage to one piece has no effect after the next zero. (The rule that a zero ends each frame is from Cheshire and
-//! Baker's paper; how broken and too long pieces are reported is a choice of this library.)
+//! A stream is cut at its zeros. A piece is the bytes, at least one, between two neighbouring zeros or before the first
+//! zero. A piece is a frame, breaks off inside a block, or decodes to more bytes than the buffer has room for. Each
+//! piece is decoded separately, so damage to one piece has no effect after the next zero. (The rule that a zero ends
+//! each frame is from Cheshire and Baker's paper; how broken and too long pieces are reported is a choice of this
+//! library.)
 
 use crate::memory::AllocError;
 use crate::proved::dec::{FrameDecoder, PieceEnd};

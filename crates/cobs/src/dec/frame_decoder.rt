@@ -1,5 +1,5 @@
-//! The traits of the streaming decoders: `FrameDecoder` for decoding, which `stream` and `framed` use, and
-//! `WriteBuffer` for writing to the decoder's buffer.
+//! The traits of the streaming decoders. `FrameDecoder` is for decoding; `stream` and `framed` use this trait.
+//! `WriteBuffer` is for writing to the decoder's buffer.
 ghost use Rattle.std.specs.Prelude.{◌≡◌, ◌≤◌, ℕ, List, length, ◌+◌};
 ghost use Rattle.cobs.specs.Feed.{Feeds, Phase};
 ghost use Rattle.cobs.specs.FeedPiece.{end_reported, TakesPiece};
@@ -73,8 +73,8 @@ pub trait FrameDecoder {
     /// The decoder's phase.
     ghost phase: { Self → Phase };
 
-    /// A number that identifies the slice that the decoder borrows as its buffer. If the decoder borrows no slice, any
-    /// constant number.
+    /// A number that identifies the slice that the decoder borrows as its buffer. If the decoder borrows no slice, the
+    /// number is any constant.
     ghost loan: { Self → ℕ };
 
     /// Decodes the next byte of the stream. The results and errors are those of
@@ -93,7 +93,7 @@ pub trait FrameDecoder {
 
     /// Decodes the next bytes of the stream, and stops after the first zero that ends a piece.
     ///
-    /// - Returns `None` if no piece ended in these bytes. Then all of them were decoded.
+    /// - Returns `None` if no piece ended in these bytes. In this case all these bytes were decoded.
     /// - Returns `Some((end, count))` if the zero at index `count - 1` ended a piece; `end` says how the piece ended.
     ///   The bytes after that zero had no effect, so the caller continues with the byte at index `count`, even if the
     ///   piece is too long for the buffer.
@@ -101,7 +101,8 @@ pub trait FrameDecoder {
     /// The bytes of the buffer after the piece's output are as they were.
     ///
     /// An implementation doesn't have to define this method: the provided method feeds one byte after another. The
-    /// decoders of this library define it: on targets with SIMD vectors they copy many bytes in one step.
+    /// decoders of this library have their own `feed_piece`, which copies many bytes in one step on targets with SIMD
+    /// vectors.
     ///
     /// ```
     /// let mut decoder = CobsDecoderHeapless::<1>::new();
@@ -141,10 +142,10 @@ pub trait FrameDecoder {
 /// bytes of its message are unspecified. A piece is open from its first byte to the zero that ends it.
 ///
 /// Each decoder of this library that implements this trait also has an inherent method `dest_mut`. A `CobsDecoder`
-/// borrows its slice, so a proof about a caller of `CobsDecoder::dest_mut` can use the bytes of the slice while the
-/// returned reference is in use, but nothing else. If the proof also needs the decoder's state, the caller calls
-/// [`write_dest`](WriteBuffer::write_dest), or `dest_mut` in code that is generic over this trait. (The trait is this
-/// library's own.)
+/// borrows its slice. So a proof about a caller of `CobsDecoder::dest_mut` can use the bytes of the slice while the
+/// returned reference is in use, but not the decoder's state after the write. If the proof needs this state, the caller
+/// has two other calls: [`write_dest`](WriteBuffer::write_dest), or the `dest_mut` of this trait in generic code. (The
+/// trait is this library's own.)
 ///
 /// ```
 /// let mut buffer = [0; 3];

@@ -25,8 +25,8 @@ pub(crate) const SPAN_MAX: usize = FULL_BLOCK_BYTES - 1;
 
 /// Decodes up to seven rows of 32 codes 01 from the front of `bytes`, and returns the number of these codes. `byte` is
 /// the code 01, XORed with the sentinel. For each code the function writes a zero to `dest`, from index `at` on. It
-/// stops before a row that contains another byte, and before a row for which `dest` has no room. Eight rows would be
-/// longer than a span.
+/// stops before a row that contains another byte, and before a row for which `dest` has no room. The limit is seven
+/// rows, because eight rows would be longer than a span.
 #[inline(always)]
 fn write_rows(dest: &mut [u8], at: usize, bytes: &[u8], byte: u8) -> usize
     ensures within { result ≤ length bytes.now }
@@ -255,8 +255,8 @@ impl UnbufferedDecoder {
     ///
     /// - There are at least 2 bytes.
     /// - `dest` has room for the output of the bytes.
-    /// - The first 32 bytes aren't all codes 01. Such bytes are decoded faster by [`take_run`](Self::take_run), which
-    ///   decodes rows of 32 codes in one step.
+    /// - The first 32 bytes aren't all codes 01. Rows of codes 01 are decoded faster by [`take_run`](Self::take_run),
+    ///   which decodes 32 of these codes in one step.
     #[inline(always)]
     pub(crate) fn take_front(&mut self, dest: &mut [u8], bytes: &[u8]) -> bool
         requires idle { phase_of self.old ≡ Idle }
@@ -290,10 +290,10 @@ impl UnbufferedDecoder {
     ///
     /// - If the first byte is the code of a block that has at least 64 bytes after its code, the step decodes this code
     ///   and the bytes of the block.
-    /// - If the first byte is the code of a shorter block that begins the piece or follows a full block, the step
-    ///   decodes only the code. Such a code adds no byte to the output.
-    /// - If the first bytes are rows of 32 blocks 01, the step decodes up to seven rows.
-    /// - Otherwise the step decodes a span.
+    /// - If the first byte is a smaller code, and its block begins the piece or follows a full block, the step decodes
+    ///   only this code. Such a code adds no byte to the output.
+    /// - Otherwise, if the first bytes are rows of 32 blocks 01, the step decodes up to seven rows.
+    /// - In all other cases the step decodes a span.
     #[inline(always)]
     fn take_part(&mut self, dest: &mut [u8], bytes: &[u8], sentinel: u8) -> usize
         requires going { self.old.too_long ≡ 0 }
@@ -379,8 +379,8 @@ impl UnbufferedDecoder {
         self.take_blocks(dest, &bytes[..end], 0)
     }
 
-    /// Calls [`take_run`](Self::take_run) and returns its result if the target has vectors. If the target has no
-    /// vectors, the function decodes nothing and returns 0; the caller then feeds the bytes one by one.
+    /// Decodes `bytes` as [`take_run`](Self::take_run) does, if the target has vectors. If the target has no vectors,
+    /// the function decodes nothing and returns 0; the caller then feeds the bytes one by one.
     #[inline(always)]
     pub(crate) fn take_at_once(&mut self, dest: &mut [u8], bytes: &[u8]) -> usize
         ensures within { result ≤ length bytes.now }

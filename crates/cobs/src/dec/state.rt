@@ -58,7 +58,7 @@ impl Default for DecoderState {
     // The state that generic code gets from `default`.
     ghost is_default = { λ state. state ≡ Idle };
 
-    /// Makes the state before the first byte of a stream, which is `Idle`.
+    /// Makes the state before the first byte of a stream: `Idle`.
     ///
     /// ```
     /// assert!(rt; matches!(DecoderState::default(), DecoderState::Idle));
@@ -130,7 +130,7 @@ impl DecoderState {
     /// - For a sentinel, the result is `DataComplete` if the last block has all bytes that its code counts, and
     ///   `NoData` if no frame has begun. After each sentinel the state is `Idle`.
     /// - For the first code of a frame, the result is `DataStart`.
-    /// - For a code after a full block, the result is `NoData`. For a code after any other block, it is
+    /// - For a code after a full block, the result is `NoData`. For a code after any other block, the result is
     ///   `DataContinue(0)`, because a zero joins the two blocks.
     /// - For a byte inside a block, the result is `DataContinue` with this byte.
     ///

@@ -88,10 +88,10 @@ fn decode_long(source: &[u8], dest: &mut [u8]) -> Result<DecodeReport, DecodeErr
 
 /// Decodes a short frame as [`decode`] does. For any other source, returns `None` and leaves `dest` as it was.
 ///
-/// A source is decoded if it consists of `n` nonzero bytes, with or without one zero after them, if `n` is 2 to 65, and
-/// if `dest` has at least `n - 1` bytes. If the target has SIMD vectors, [`decode`] calls this function first.
-/// `decode_short` and the functions of this library that it calls are marked `#[inline(always)]`, so a caller decodes a
-/// short frame without a function call. (This function is this library's own.)
+/// A source is decoded if it consists of `n` nonzero bytes, with or without one zero after them. The number `n` must be
+/// from 2 to 65, and `dest` must have at least `n - 1` bytes. If the target has SIMD vectors, [`decode`] calls this
+/// function first. `decode_short` and the functions of this library that it calls are marked `#[inline(always)]`, so a
+/// caller decodes a short frame without a function call. (This function is this library's own.)
 ///
 /// ```
 /// let mut dest = [170; 3];

@@ -1,6 +1,6 @@
-//! Cuts a message into blocks: the core of the encoders that write to a slice, on targets with SIMD vectors. A *window*
-//! is 32 bytes that are copied in one step. The *mask* of a window is a number with one bit for each byte of the
-//! window; the bit is 1 if the byte is a zero.
+//! Cuts a message into blocks. On targets with SIMD vectors, these functions are the core of the encoders that write to
+//! a slice. A *window* is 32 bytes that are copied in one step. The *mask* of a window is a number with one bit for
+//! each byte of the window; the bit is 1 if the byte is a zero.
 ghost use Rattle.std.specs.Prelude.{◌≡◌, ◌≢◌, ◌<◌, ◌≤◌, ◌+◌, ◌-◌, ◌%◌, ◌++◌, ◌==◌, ℕ, IsTrue, List, length, not, take, drop, replicate};
 ghost use Rattle.cobs.specs.Grammar.{HasNoZero, IsEncodedFrame};
 ghost use Rattle.cobs.specs.OpenBlock.{CobsEncoderAfter, IsPlaceIn, end_after, end_of};
@@ -50,9 +50,9 @@ pub(crate) fn fits_window_and_block(encoder: UnbufferedEncoder, len: usize) -> b
 }
 
 /// Closes the open block at the first zero that the mask marks, and writes the block's code. Returns the index of the
-/// next code, and the mask without the bit of that zero. No branch tests whether the mask marks a zero: if it marks
-/// none, the function also writes a byte at the place of the block's code. The block then stays open, and its code is
-/// written later.
+/// next code, and the mask without the bit of that zero. No branch tests whether the mask marks a zero. If the mask
+/// marks no zero, the function still writes a byte at the place of the block's code, but the block stays open, and its
+/// code is written later.
 #[inline(always)]
 fn mark_first(dest: &mut [u8], index: usize, next: usize, zeros: u64) -> (usize, u64)
     requires { IsMask next zeros index dest.old }
@@ -85,9 +85,10 @@ fn mark_zeros(dest: &mut [u8], index: usize, next: usize, zeros: u64) -> usize
 }
 
 /// Encodes the first `len` bytes of `source` one by one. The caller ensures that these bytes can't fill the open block.
-/// Each zero is copied like any other byte; the code of the block that begins there is written over it. No branch tests
-/// whether a byte is a zero, because a processor could mispredict that branch. Instead, for each byte the function
-/// writes the code that the open block has if this byte is a zero.
+/// Each zero is copied like any other byte. A block begins at the copy of the zero, and the code of this block is later
+/// written over the zero. No branch tests whether a byte is a zero, because a processor could mispredict that branch.
+/// Instead, at each byte the function writes a code for the open block, as if this byte were the zero that ends the
+/// block.
 #[inline(always)]
 pub(crate) fn append_few(
     source: &[u8],
@@ -116,8 +117,8 @@ pub(crate) fn append_few(
 
 /// Encodes a `source` of up to 32 bytes, which can't fill the open block. The function has few branches that a
 /// processor could mispredict: it calls `mark_first` twice before a branch depends on the number of zeros. If
-/// `test_for_none` is true, a branch first tests whether `source` has a zero. Pushes set this flag, because with it a
-/// push without a zero is faster.
+/// `test_for_none` is true, a branch first tests whether `source` has a zero. `push` passes true, because this test
+/// makes a push without zeros faster.
 #[inline(always)]
 #[tactic(auto, using(crate::proofs::encoding::TakingLemmas::next_steps))]
 pub(crate) fn append_short(
@@ -149,8 +150,8 @@ pub(crate) fn append_short(
     encoder_at(index, next + len, 0)
 }
 
-/// Encodes rows of 32 zeros at the front of `source`, as long as more than 32 bytes of `source` remain: writes a code 1
-/// to `dest`, from index `at` on, for each zero. Returns how many codes it wrote.
+/// Encodes rows of 32 zeros at the front of `source`, as long as more than 32 bytes of `source` remain. For each zero,
+/// the function writes a code 1 to `dest`, from index `at` on. Returns how many codes it wrote.
 #[inline(always)]
 fn write_codes_of_zeros(source: &[u8], dest: &mut [u8], at: usize) -> usize
     requires some { 0 < length source.now }
@@ -173,14 +174,14 @@ fn write_codes_of_zeros(source: &[u8], dest: &mut [u8], at: usize) -> usize
 ///
 /// Each window is copied to the place of the next byte. If the bytes before the window's first zero fill the open
 /// block, the function closes this block and returns. The caller then copies the rest of the run in slices, because a
-/// run that fills one block often fills more blocks. Otherwise the function writes a code over each zero of the window,
-/// and the last block stays open for the next window. If the window has only zeros, rows of 32 zeros after it aren't
-/// copied: their codes are written 32 at a time. No byte after the frame is written.
+/// run that fills one block often fills more blocks. If these bytes don't fill the open block, the function writes a
+/// code over each zero of the window, and the last block stays open for the next window. If the window has only zeros,
+/// rows of 32 zeros after it aren't copied: their codes are written 32 at a time. No byte after the frame is written.
 ///
-/// In the body, the code of the open block belongs at `index`, and the window is copied to `next`. `place` is the index
-/// of the copy of the window's first zero. The bytes of the open block end before `place` or, if the window has no
-/// zero, before `next + 32`. A block has at most 255 bytes. So the open block doesn't become full if this index is less
-/// than `index + 255`.
+/// In the body of the function, the code of the open block belongs at `index`, and the window is copied to `next`. If
+/// the window has a zero, the first zero is copied to `place`, and the bytes of the open block end before `place`. If
+/// the window has no zero, they end before `next + 32`. A block has at most 255 bytes. So the open block doesn't become
+/// full if its bytes end before an index that is less than `index + 255`.
 #[inline(always)]
 #[tactic(auto, using(crate::proofs::encoding::TakingLemmas::next_steps))]
 fn append_windows(
@@ -280,9 +281,10 @@ fn append_long_run(
     (read + 1, encoder_at(next, next + 1, 0))
 }
 
-/// Encodes all bytes of `source`, whose first run has `run` bytes. The function encodes this run first. Then it repeats
-/// two steps until no byte remains. First, `append_windows` encodes bytes until a run fills the open block, or until at
-/// most 32 bytes remain. Then `append_long_run` encodes the rest of the current run, and the zero after it.
+/// Encodes all bytes of `source`, whose first run has `run` bytes. The function encodes this run, and then repeats two
+/// steps until no byte remains. In the first step, `append_windows` encodes bytes until a run fills the open block, or
+/// until at most 32 bytes remain. In the second step, `append_long_run` encodes the rest of the current run, and the
+/// zero after it.
 #[inline(never)]
 #[tactic(auto, using(crate::proofs::encoding::TakingLemmas::next_steps))]
 pub(crate) fn append_rest(
@@ -361,8 +363,8 @@ pub(crate) fn close_block(dest: &mut [u8], encoder: &UnbufferedEncoder) -> usize
 }
 
 /// Writes the code of the open block, unless the frame ends with a full block, and returns the frame's length, as
-/// [`close_block`] does. If the frame ends with a full block, and the target has SIMD vectors, `close` also stores the
-/// next byte of the slice, if there is one. It stores the value that this byte already has.
+/// [`close_block`] does. If the frame ends with a full block, the slice may have a byte after the frame. On a target
+/// with SIMD vectors, `close` then also stores this byte, with the value that the byte already has.
 // With this store, compilers keep the caller's loop over single bytes as it is written. If only an open block's code
 // were stored, this loop would be slower in the Rust crate on x86-64. On a target without vectors `close` calls
 // `close_block`, which needs fewer bytes of flash.

@@ -24,8 +24,8 @@ pub enum PushResult {
     ModifyFromStartAndSkip((usize, u8)),
 
     /// The first number is an index in the output, the second number is a code, and the third number is a byte of the
-    /// message. The code replaces the output's byte at that index. Then the byte of the message is appended to the
-    /// output, and a placeholder after it.
+    /// message. The code replaces the output's byte at that index. Then two bytes are appended to the output: the byte
+    /// of the message, and a placeholder, which may have any value.
     ModifyFromStartAndPushAndSkip((usize, u8, u8)),
 }
 
@@ -122,8 +122,8 @@ impl Clone for EncoderState {
 }
 
 impl EncoderState {
-    /// Returns whether another byte can be pushed: the index of the next block must fit a `usize`, whatever the byte
-    /// is. (This function is this library's own.)
+    /// Returns whether another byte can be pushed. The result is true if, for every value of this byte, the index at
+    /// which a block after it would begin fits a `usize`. (This function is this library's own.)
     ///
     /// ```
     /// assert!(rt; EncoderState::default().can_push());

@@ -6,13 +6,14 @@ ghost use Rattle.cobs.specs.Fields.Progress.{reached_by};
 /// Encodes a message that comes in chunks, straight into a buffer that the caller passes to each call.
 ///
 /// This encoder writes the frame that [`CobsEncoder`](crate::CobsEncoder) writes, but it neither owns nor borrows the
-/// buffer. It consists of three numbers, which say how much of the frame is in the buffer, and which are all 0 at the
-/// start. So a struct can contain both an encoder and its buffer, and an encoder can be passed to another language.
+/// buffer. So a struct can contain both an encoder and its buffer. The encoder consists of three numbers, so it can be
+/// passed to another language. The numbers say how much of the frame is in the buffer. At the start of a message all
+/// three numbers are 0.
 ///
 /// From the first push to the end of the message, the caller must pass the same buffer to each call, and must not
 /// change the buffer between two calls. If the caller passes another buffer, of any length, or sets the three numbers
-/// to any values, each call is still safe. No call panics, and no call returns a length greater than the buffer's
-/// length. But the bytes of the buffer are then unspecified.
+/// to any values, each call is still safe: no call panics, and no call returns a length greater than the buffer's
+/// length. But in these cases the bytes of the buffer are unspecified.
 ///
 /// ```
 /// let mut encoder = UnbufferedEncoder::new();
@@ -32,8 +33,8 @@ pub struct UnbufferedEncoder {
     /// How many bytes the open block has after its code, at most 253.
     pub taken: u8,
 
-    /// Not 0 if the last block of the frame so far is full. If `full` isn't 0, the open block is empty, and `index` is
-    /// the index after the full block.
+    /// Not 0 if the frame so far ends with a full block, and otherwise 0. If `full` isn't 0, the open block has no
+    /// bytes yet, and `index` is the index after the full block.
     pub full: u8,
 }
 

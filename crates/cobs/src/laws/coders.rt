@@ -18,8 +18,8 @@ ghost use Rattle.cobs.specs.declared.dec.frame_decoder.PieceEnd.{PieceEnd};
 /// - 254 nonzero bytes, if other bytes follow them
 /// - the whole message, if the message consists of up to 254 nonzero bytes
 ///
-/// If the nonzero bytes at the front of a message are replaced by as many other nonzero bytes, the length stays the
-/// same.
+/// If nonzero bytes at the front of a message are replaced by as many other nonzero bytes, the length of the encoded
+/// frame stays the same.
 ///
 /// So an encoder can decide with one pass over the message, before it writes a byte, whether the frame fits.
 ///
@@ -53,11 +53,12 @@ pub fn law_15()
 ///
 /// Suppose that the encoder has taken some bytes of the message, perhaps none, and that at least one more byte is to
 /// come. Then the length of the encoded frame of the whole message is the sum of two numbers. The first number is the
-/// index of the open block. The second number is the length of the encoded frame of another message: the bytes of the
-/// open block without its code, and then the bytes that are still to come. The clause `goes_on` states this sum. In
-/// place of the open block's bytes, it has any list `a` of as many nonzero bytes.
+/// index of the open block. The second number is the length of the encoded frame of another message. That message
+/// consists of the bytes that the open block has after its code, followed by the bytes that are still to come. The
+/// clause `goes_on` states this sum, but with a list `a` in place of the bytes after the open block's code: `a` may be
+/// any list of as many nonzero bytes.
 ///
-/// So an encoder of your own that makes these steps writes the frames that [`encode`](crate::encode) writes.
+/// So an encoder of your own that writes blocks in this way writes the frames that [`encode`](crate::encode) writes.
 ///
 /// ```
 /// fn take_nonzero(slice: &mut [u8], index: usize, code: u8, byte: u8)
@@ -85,8 +86,8 @@ pub fn law_16()
 /// A decoder of your own, byte by byte.
 ///
 /// The file `specs/Step.antt` defines a step for every phase of a decoder and every byte. This step meets the contract
-/// of `feed` (clause `step`). As long as the output of the piece fits the buffer, the step is the one that the table of
-/// [`DecoderState`](crate::DecoderState) describes (clause `by_table`).
+/// of `feed` (clause `step`). As long as the output of the piece fits the buffer, the step has the same effect on a
+/// decoder's state as on a [`DecoderState`](crate::DecoderState) (clause `by_table`).
 ///
 /// Consider a loop that feeds bytes one by one, and stops after the zero that ends the first piece, or after the last
 /// byte if no piece ends. This loop has the same result as one call of `feed_piece`.
@@ -118,10 +119,10 @@ pub fn law_17()
 /// Streaming decoders return the message of each frame, and no other message.
 ///
 /// Assume that the buffer has room for the message of a frame. After all bytes of the frame have been fed, `feed` of
-/// the zero after the frame returns the length of the message. If an idle decoder gets a piece, a zero and any other
-/// bytes, `feed_piece` stops after that zero. If the piece is this frame, `feed_piece` returns the length of the
-/// message. A `push` of the frame and its zero to an idle decoder returns the length of the message too. After each of
-/// these calls the buffer begins with the message. No piece that isn't a frame is decoded as a message.
+/// the zero after the frame returns the length of the message. If a call of `feed_piece` passes a piece, a zero and any
+/// further bytes to an idle decoder, the call stops after that zero. If the piece is the frame, the call returns the
+/// length of the message. A `push` of the frame and a zero to an idle decoder returns the length of the message too.
+/// After each of these calls the buffer begins with the message. No piece that isn't a frame is decoded as a message.
 ///
 /// So each of these calls decodes the frames that [`encode`](crate::encode) writes.
 ///

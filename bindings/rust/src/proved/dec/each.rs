@@ -15,7 +15,7 @@ use crate::proved::find::{leading_zeros, len_to, len_to_zero};
 ///
 /// # Errors
 ///
-/// `InvalidFrame` if the last block breaks off, with the same `decoded_bytes` as
+/// `InvalidFrame` if the frame breaks off inside its last block. The number `decoded_bytes` is the same as that of
 /// [`decode_in_place`](crate::decode_in_place). The bytes of the broken block aren't decoded.
 // Not inlined, so that its loops can use all registers of a small processor.
 #[inline(never)]
@@ -65,7 +65,8 @@ pub(crate) fn decode_in_place_each(buf: &mut [u8]) -> Result<DecodeReport, Decod
     })
 }
 
-/// Returns the index after the first zero at index `at` or later, or the source's length if there is no such zero.
+/// Finds the first zero of the source from index `at` on. Returns the index after this zero, or the source's length if
+/// there is no zero from `at` on.
 // Not inlined, so that the loops of its caller can use all registers of a small processor.
 #[inline(never)]
 fn through_piece(source: &[u8], at: usize) -> usize {

@@ -1,6 +1,6 @@
 // Made by bindings/rust/translate.py from `crates/cobs/src/dec/frame_decoder.rt`: change that file, and run it again.
-//! The traits of the streaming decoders: `FrameDecoder` for decoding, which `stream` and `framed` use, and
-//! `WriteBuffer` for writing to the decoder's buffer.
+//! The traits of the streaming decoders. `FrameDecoder` is for decoding; `stream` and `framed` use this trait.
+//! `WriteBuffer` is for writing to the decoder's buffer.
 
 use crate::proved::error::DecodeError;
 
@@ -80,7 +80,7 @@ pub trait FrameDecoder {
 
     /// Decodes the next bytes of the stream, and stops after the first zero that ends a piece.
     ///
-    /// - Returns `None` if no piece ended in these bytes. Then all of them were decoded.
+    /// - Returns `None` if no piece ended in these bytes. In this case all these bytes were decoded.
     /// - Returns `Some((end, count))` if the zero at index `count - 1` ended a piece; `end` says how the piece ended.
     ///   The bytes after that zero had no effect, so the caller continues with the byte at index `count`, even if the
     ///   piece is too long for the buffer.
@@ -88,7 +88,8 @@ pub trait FrameDecoder {
     /// The bytes of the buffer after the piece's output are as they were.
     ///
     /// An implementation doesn't have to define this method: the provided method feeds one byte after another. The
-    /// decoders of this library define it: on targets with SIMD vectors they copy many bytes in one step.
+    /// decoders of this library have their own `feed_piece`, which copies many bytes in one step on targets with SIMD
+    /// vectors.
     ///
     /// ```
     /// use jcobs::{CobsDecoderHeapless, FrameDecoder, PieceEnd};

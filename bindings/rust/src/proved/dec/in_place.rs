@@ -19,13 +19,14 @@ fn move_back(buffer: &mut [u8], at: usize, read: usize, len: usize) {
 }
 
 impl UnbufferedDecoder {
-    /// Makes one decoding step in the buffer: decodes one or more bytes, the first of which is at index `read` and all
-    /// of which are before index `end`. Writes the output to the same buffer, and returns how many bytes it decoded.
+    /// Makes one decoding step in the buffer: decodes one or more bytes. The first of these bytes is at index `read`,
+    /// and the last is before index `end`. Writes the output to the same buffer, and returns how many bytes it decoded.
     /// The steps are those of `take_part` in `run.rt`, with two differences: a step decodes at most one row of 32
     /// blocks 01, and the output always fits.
     ///
-    /// The output must not overwrite a byte that isn't decoded yet. So the caller ensures that the output so far ends at
-    /// index `read` at the latest, and before `read` if the next code will add the zero of a joint.
+    /// The output must not overwrite a byte that isn't decoded yet. So the caller ensures that the output so far is at
+    /// most `read` bytes long. If the next code will add the zero of a joint, the output so far is less than `read`
+    /// bytes long.
     #[inline(always)]
     fn take_part_in_place(&mut self, buffer: &mut [u8], read: usize, end: usize) -> usize {
         let code = buffer[read];

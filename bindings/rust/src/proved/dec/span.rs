@@ -47,9 +47,9 @@ pub(crate) fn write_zeros_at_copied(
 }
 
 /// Decodes a source of 2 to 65 bytes for `sentinel`, and returns how many bytes of its last block are missing. The
-/// bytes of `dest` after the output are unchanged. Returns `None` and changes nothing if the source has another length,
-/// if one of its bytes is the sentinel, or if `dest` is shorter than the output. The output has one byte fewer than the
-/// source.
+/// output has one byte fewer than the source, and the bytes of `dest` after the output are unchanged. Returns `None`
+/// and changes nothing if the source has fewer than 2 or more than 65 bytes, if one of its bytes is the sentinel, or if
+/// `dest` is shorter than the output.
 #[inline(always)]
 pub(crate) fn decode_span(source: &[u8], dest: &mut [u8], sentinel: u8) -> Option<u8> {
     let len = source.len();
@@ -66,8 +66,8 @@ pub(crate) fn decode_span(source: &[u8], dest: &mut [u8], sentinel: u8) -> Optio
 
 /// Returns how many of `bytes` have to be decoded, and whether the piece is whole; `bytes` are the last bytes of a
 /// piece. A whole piece is decoded to its end. A broken piece is decoded up to and including the code of its last
-/// block, because the output doesn't include the other bytes of that block. The first `left` bytes belong to a block
-/// that began before `bytes`. Each byte of `bytes` is XORed with the sentinel before it is read.
+/// block, because the kept output doesn't include the other bytes of that block. The first `left` bytes belong to a
+/// block that began before `bytes`. Each byte of `bytes` is XORed with the sentinel before it is read.
 pub(crate) fn kept_len(bytes: &[u8], left: usize, sentinel: u8) -> (usize, bool) {
     let mut at = left;
     while at < bytes.len() {

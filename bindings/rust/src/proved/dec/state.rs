@@ -54,7 +54,7 @@ pub enum DecodeResult {
 }
 
 impl Default for DecoderState {
-    /// Makes the state before the first byte of a stream, which is `Idle`.
+    /// Makes the state before the first byte of a stream: `Idle`.
     ///
     /// ```
     /// use jcobs::DecoderState;
@@ -111,7 +111,7 @@ impl DecoderState {
     /// - For a sentinel, the result is `DataComplete` if the last block has all bytes that its code counts, and
     ///   `NoData` if no frame has begun. After each sentinel the state is `Idle`.
     /// - For the first code of a frame, the result is `DataStart`.
-    /// - For a code after a full block, the result is `NoData`. For a code after any other block, it is
+    /// - For a code after a full block, the result is `NoData`. For a code after any other block, the result is
     ///   `DataContinue(0)`, because a zero joins the two blocks.
     /// - For a byte inside a block, the result is `DataContinue` with this byte.
     ///

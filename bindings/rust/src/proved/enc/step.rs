@@ -42,8 +42,9 @@ impl UnbufferedEncoder {
     /// The effect and the result are those of a [`push`](UnbufferedEncoder::push) of this one byte.
     ///
     /// # Errors
-    /// `DestBufTooSmallError` if the buffer is shorter than the frame with this byte, or if the encoder's state isn't
-    /// possible in a buffer of this length. Then neither the encoder nor the buffer has changed.
+    /// `DestBufTooSmallError` if the encoded frame of the message up to and including this byte is longer than the
+    /// buffer, or if the encoder's state isn't possible in a buffer of this length. Then neither the encoder nor the
+    /// buffer has changed.
     ///
     /// ```
     /// use jcobs::{DestBufTooSmallError, UnbufferedEncoder};
