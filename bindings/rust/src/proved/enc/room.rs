@@ -38,8 +38,8 @@ fn covers_overhead(len: usize, spare: usize) -> bool {
 }
 
 /// Returns whether the frame fits the buffer after `bytes` are appended to an open block of `taken` bytes. `room` is
-/// the number of bytes that the buffer has from the open block's code to its end. The function reads `bytes` only if
-/// their number doesn't decide whether the frame fits.
+/// the number of bytes from the open block's code to the end of the buffer. The function reads `bytes` only if their
+/// number doesn't decide whether the frame fits.
 // Inlined, because usually the number of bytes and `room` decide the result: for a short message, a call would cost
 // more than the comparisons.
 #[inline(always)]
@@ -54,9 +54,9 @@ pub(crate) fn has_room(taken: u8, bytes: &[u8], room: usize) -> bool {
 }
 
 /// Returns `Some` if the frame fits the buffer after `source` is appended to an open block of `taken` bytes, and
-/// otherwise `None`. `room` is the number of bytes that the buffer has from the open block's code to its end. The
-/// `Some` contains the length of the first run of `source`, so that the encoder needn't search for the end of this run
-/// again. If the function didn't search for the end of the first run, the `Some` contains 0.
+/// otherwise `None`. `room` is the number of bytes from the open block's code to the end of the buffer. The `Some`
+/// contains the length of the first run of `source`, so that the encoder needn't search for the end of this run again.
+/// If the function didn't search for the end of the first run, the `Some` contains 0.
 ///
 /// The function counts all full blocks except a full block at the end of the frame. It looks at the bytes that would
 /// fill the open block. If one of these bytes is a zero, the block doesn't become full, and the function continues
