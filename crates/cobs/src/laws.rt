@@ -291,7 +291,7 @@ pub fn law_9()
 ///
 /// If bytes between two sentinels are changed, lost or added, the pieces before the first sentinel and after the second
 /// sentinel keep their outcomes, even if the damage adds sentinels. If there are bytes between the two sentinels, but
-/// no sentinel, they are one piece, with one outcome. If the two are adjacent, there is no piece between them.
+/// no sentinel, these bytes are one piece, with one outcome. If the two are adjacent, there is no piece between them.
 ///
 /// So a receiver on a noisy line, or a reader of a damaged file of records, loses only the messages that the damage touches.
 ///

@@ -29,9 +29,9 @@ fn fits_each(taken: u8, bytes: &[u8], spare: usize) -> bool {
 /// Returns whether `spare` bytes are enough for the overhead of every message of `len` bytes, that is, whether `len` is
 /// at most 254 times `spare`. For up to 254 bytes, one spare byte is always enough.
 ///
-/// A direct comparison could overflow. Half of `len`, rounded up, is at most 127 times `spare` exactly if `len` is at
-/// most 254 times `spare`. The function adds `spare` to both sides of this comparison, and divides both sides by 128.
-/// So it divides only by 2 and by 128, which a small processor does with shifts.
+/// A direct comparison could overflow. `len` is at most 254 times `spare` exactly if half of `len`, rounded up, is at
+/// most 127 times `spare`. The function adds `spare` to both sides of this second comparison, and divides both sides by
+/// 128. So it divides only by 2 and by 128, which a small processor does with shifts.
 #[inline(always)]
 fn covers_overhead(len: usize, spare: usize) -> bool {
     len <= FULL_BLOCK_BYTES || (len - len / 2 + spare - 1) / 128 < spare
