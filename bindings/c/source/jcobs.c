@@ -178,8 +178,8 @@ static size_t jcobs_max_overhead(size_t message_len)
     return message_len / JCOBS_FULL_BLOCK_BYTES + (message_len % JCOBS_FULL_BLOCK_BYTES != 0 ? 1 : 0);
 }
 
-/* Returns the length of the longest frame of a message of message_len bytes, or 0 if this length doesn't fit the
- * type of the result.
+/* Returns the length of the longest frame of a message of message_len bytes, or 0 if the frame's length doesn't
+ * fit the type of the result.
  * Proved, by the contract in encode.rt: the result is this length if it is below 2 to the 64th, and 0 otherwise. */
 size_t jcobs_max_length(size_t message_len)
 {
@@ -215,9 +215,9 @@ static int jcobs_extra_codes_fit(unsigned char taken, const unsigned char *bytes
 }
 
 /* Returns whether the frame fits the buffer after `bytes` are appended to an open block of `taken` bytes. `room`
- * is the number of bytes that the buffer has from the open block's code to its end. The function reads `bytes`
- * only if their number doesn't decide whether the frame fits. data_len is the number of bytes of the message in
- * the open block and the blocks after it, including these bytes. */
+ * is the number of bytes from the open block's code to the end of the buffer. The function reads `bytes` only if
+ * their number doesn't decide whether the frame fits. data_len is the number of bytes of the message in the open
+ * block and the blocks after it, including these bytes. */
 static JCOBS_INLINE int jcobs_has_room(unsigned char taken, const unsigned char *bytes, size_t len, size_t room)
 {
     size_t block_len = taken;

@@ -42,9 +42,9 @@ pub use vector::{encode_vec, encode_vec_including_sentinels, encode_vec_with_sen
 /// sentinel 0, and no sentinel is written before or after the frame. The bytes of `dest` after the frame stay as they
 /// were.
 ///
-/// Precondition: the frame fits `dest`. [`max_encoding_length`](crate::max_encoding_length) returns a length of `dest`
-/// that is always enough. If you don't know whether the frame fits, call [`try_encode`], which returns an error if the
-/// frame doesn't fit.
+/// Precondition: the frame fits `dest`. For the message's length, [`max_encoding_length`](crate::max_encoding_length)
+/// returns a length of `dest` that is always enough. If you don't know whether the frame fits, call [`try_encode`],
+/// which returns an error if the frame doesn't fit.
 ///
 /// ```
 /// let mut dest = [170; 6];
@@ -72,8 +72,8 @@ pub fn encode(source: &[u8], dest: &mut [u8]) -> usize
     encode_long(source, dest)
 }
 
-/// Encodes a message of any length as [`encode`] does. This function is separate from `encode`, so that `encode`
-/// doesn't save registers for the loop when it encodes a short message.
+/// Encodes a message of any length as [`encode`] does. This function is separate from `encode`: otherwise `encode`
+/// would save registers for the loop of a long message, even when it encodes a short message.
 #[inline(never)]
 #[tactic(auto, using(crate::proofs::encoding::TakingLemmas::from_start))]
 fn encode_long(source: &[u8], dest: &mut [u8]) -> usize

@@ -69,9 +69,9 @@ pub enum ReadFault {
 
 /// A source of the bytes of a stream.
 ///
-/// Contracts describe a source by the relation `step`. It relates the state of the source before a read, the result of
-/// the read, and the state after the read: `step` holds if a read in the first state may have this result and lead to
-/// the second state. The result of a read is a failure, or the bytes that the read returned.
+/// Contracts describe a source by the relation `step`. `step before result after` holds if a read of a source in the
+/// state `before` may have this result and leave the source in the state `after`. The result of a read is a failure, or
+/// the bytes that the read returned.
 ///
 /// ```
 /// let mut source = Recorded::new([2, 7].as_slice());
@@ -81,7 +81,7 @@ pub enum ReadFault {
 /// assert_eq!(rt; source.read_some(&mut chunk), Some(0));
 /// ```
 pub trait FrameSource {
-    /// Whether a read in the first state may have this result and lead to the second state.
+    /// Whether a read of a source in the first state may have this result and leave the source in the second state.
     ghost step: { Self → Option (List ℕ) → Self → Type 0 };
 
     /// Reads bytes of the stream into `chunk`, with one read.
@@ -298,10 +298,10 @@ impl<D: FrameDecoder> FrameReader<D> {
     /// Decodes the stream up to the zero that ends the next piece, and returns the outcome of this piece. Returns
     /// `Next::End` if the source ends before such a zero.
     ///
-    /// The call first uses the bytes that earlier calls have kept. Then it makes up to 65,536 reads from the source: it
-    /// stops after the read that contains the end of a piece, after a failed read, and after a read that returned no
-    /// bytes. The call keeps the bytes after the end of the piece for the next call. After `Next::End` the stream may
-    /// continue, in this source or in another one.
+    /// The call first uses the bytes that earlier calls have kept. If no piece ends in these bytes, the call makes up
+    /// to 65,536 reads from the source. It stops after the first read that returned the end of a piece, that failed, or
+    /// that returned no bytes. The call keeps the bytes after the end of the piece for the next call. After `Next::End`
+    /// the stream may continue, in this source or in another one.
     ///
     /// # Errors
     /// - `Io` if the last read of this call failed.

@@ -1,7 +1,7 @@
-//! The laws of messages, frames, pieces and streams. Each law is a function whose contract states the law. The function does
-//! nothing when it runs. Another function calls it to use the law in its own proof. The example of each law is such a caller.
-//! Some examples call `reads_as`, the function that CALLING.md shows. If an example needs a proof, the proof is shown after it:
-//! the lines of the caller's `Answers.antt`, without the line `use Rattle.CRATE.proofs.CALLER.Goals as goal`.
+//! The laws of messages, frames, pieces and streams. Each law is a function whose contract states the law. The function
+//! does nothing when it runs. If a function calls a law, the function's proof can use the law. The example of each law
+//! is such a caller. Some examples call `reads_as`, the function that CALLING.md shows. If an example needs a proof,
+//! the proof follows it: the caller's `Answers.antt` without the line `use Rattle.CRATE.proofs.CALLER.Goals as goal`.
 //!
 //! ```
 //! fn encode_by_longest(source: &[u8], dest: &mut [u8]) -> usize
@@ -30,10 +30,10 @@ pub use coders::{law_15, law_16, law_17, law_18, law_19, law_20, law_21};
 
 /// A frame reads as its output.
 ///
-/// The output of some bytes is the message that their blocks stand for, even if the last block isn't complete. The bytes read
-/// as this message, and as no other, if three conditions hold: there is at least one byte, no byte is a zero, and the last
-/// block is complete. Otherwise the bytes read as no message. The output is never longer than the bytes, and never gets shorter
-/// if a byte is appended.
+/// The output of some bytes is the message that their blocks stand for, even if the last block isn't complete. The
+/// bytes read as this message, and as no other, if three conditions hold: there is at least one byte, no byte is a
+/// zero, and the last block is complete. Otherwise the bytes read as no message. The output is never longer than the
+/// bytes, and doesn't get shorter if another byte is appended to them.
 ///
 /// So a decoder that only checks whether the last block is complete accepts every frame, and rejects every other piece.
 ///
@@ -57,10 +57,10 @@ pub fn law_1()
 
 /// Each message has one encoded frame.
 ///
-/// Each message has exactly one encoded frame, so all encoders that write the encoded frame of a message write the same bytes.
-/// A program can compare encoded frames instead of messages, for example to find a message in a store or to check a signature.
-/// The length of the encoded frame (`encoded_len`) decides whether `try_encode` and `CobsEncoder` accept the message. In the
-/// clauses, messages and frames are lists of numbers. If a message has only bytes, its encoded frame has only bytes too.
+/// Each message has exactly one encoded frame. All encoders that write this frame write the same bytes. A program can
+/// compare encoded frames instead of messages, for example to find a message in a store or to check a signature. An
+/// encoded frame's length (`encoded_len`) decides whether `try_encode` and `CobsEncoder` accept the message. In the
+/// clauses, messages and frames are lists of numbers. If a message's numbers are below 256, so are its frame's.
 ///
 /// ```
 /// fn encode_again(message: &[u8], frame: &[u8], dest: &mut [u8]) -> usize
@@ -158,9 +158,9 @@ pub fn law_5()
 /// If each byte of a frame for the sentinel 0 is XORed with another byte `s`, the result is a frame for the sentinel `s`. The
 /// frame for `s` doesn't contain `s`, and a second XOR with `s` restores the frame for 0.
 ///
-/// A frame must not contain its sentinel, so that a receiver can find the end of a frame by searching for the sentinel. The
-/// clause `free` states this for a frame that is sent, and the clause `received` for bytes that were received. Bytes that don't
-/// contain `s` contain no zero after the XOR (`coded`), and an XOR with 0 changes nothing (`zero`).
+/// A frame must not contain its sentinel, so that a receiver can find the end of a frame by searching for the sentinel.
+/// The clause `free` states this for a sent frame, and `received` for received bytes that are a frame after the XOR.
+/// Bytes that don't contain `s` contain no zero after the XOR (`coded`), and an XOR with 0 changes nothing (`zero`).
 ///
 /// ```
 /// fn as_received<'a>(frame: &'a [u8], sentinel: u8) -> &'a [u8]
@@ -247,14 +247,14 @@ pub fn law_8()
 
 /// A stream may be cut anywhere.
 ///
-/// The unended bytes of a stream are the bytes after its last zero. Cut a stream into two chunks, and put the unended bytes of
-/// the first chunk before the second chunk. Then the pieces of the whole stream are the pieces of the first chunk, and then the
-/// pieces of the extended second chunk. The same is true for the outcomes. The unended bytes of the whole stream are those of
-/// the extended second chunk. A stream that ends in a zero has no unended bytes. In a stream without a zero, all bytes are unended,
-/// and there is no outcome. One or more nonzero bytes with a zero after them are one piece.
+/// The unended bytes of a stream are the bytes after its last zero. Cut a stream into two chunks, and put the unended
+/// bytes of the first chunk before the second. Then the outcomes of the whole stream are those of the first chunk,
+/// followed by those of the extended second chunk. The same is true for the pieces that a zero ends. The whole stream
+/// has the unended bytes of the extended second chunk. A stream that ends in a zero has no unended bytes. A stream
+/// without zeros has no outcome, and only unended bytes. One or more nonzero bytes that a zero ends are one piece.
 ///
-/// So a receiver may decode a stream in chunks of any length, as reads return them. The outcomes of all chunks, in order, are
-/// those of one call for the whole stream. `decode_stream`, `push` and `FrameReader` rely on this law.
+/// So a receiver may decode a stream in chunks of any length, as reads return them. The outcomes of all chunks, in
+/// order, are the outcomes of one call for the whole stream. `decode_stream`, `push` and `FrameReader` use this law.
 ///
 /// ```
 /// fn decode_in_two<D: FrameDecoder>(
@@ -290,8 +290,8 @@ pub fn law_9()
 /// Damage stays between its sentinels.
 ///
 /// If bytes between two sentinels are changed, lost or added, the pieces before the first sentinel and after the second
-/// sentinel keep their outcomes, even if the damage adds sentinels. One or more bytes between the two sentinels are one piece,
-/// with one outcome, if none of them is a sentinel. If the two sentinels are adjacent, there is no piece between them.
+/// sentinel keep their outcomes, even if the damage adds sentinels. If there are bytes between the two sentinels, but
+/// no sentinel, these bytes are one piece, with one outcome. If the two are adjacent, there is no piece between them.
 ///
 /// So a receiver on a noisy line, or a reader of a damaged file of records, loses only the messages that the damage touches.
 ///
@@ -348,12 +348,12 @@ pub fn law_11()
 
 /// The first and the last piece of a stream.
 ///
-/// If a stream begins with a nonzero byte, its first piece consists of the bytes before the first zero. In a buffer as long as
-/// the stream, the outcome of the first piece is the message m exactly if the piece reads as m. Zeros before the first piece
-/// are skipped: the piece begins after these zeros, and ends at the next zero or at the end of the stream. A stream that is
-/// empty, or that has only zeros, has no piece. If a search stops at the first zero, or at the end of the stream, it has found
-/// all bytes before the first zero (`head`). The same is true for any other sentinel (`head_for`). As long as no piece has
-/// ended, the unended bytes are the last piece, and the next zero ends this piece.
+/// If a stream begins with a nonzero byte, its first piece consists of the bytes before the first zero. In a buffer as
+/// long as the stream, the outcome of the first piece is the message m exactly if the piece reads as m. Zeros before
+/// the first piece are skipped: the piece begins after these zeros, and ends at the next zero or at the end of the
+/// stream. A stream that is empty, or that has only zeros, has no piece. A search finds the bytes before the first zero
+/// (`head`) if it stops at this zero or, in a stream without zeros, at the end. The same is true for any other sentinel
+/// (`head_for`). As long as no piece has ended, the unended bytes are the last piece, and the next zero ends it.
 ///
 /// So `decode`, with a buffer as long as the source, and `decode_in_place` agree about a source that begins with a nonzero
 /// byte: both return the same message, or both return an error.
@@ -395,8 +395,8 @@ pub fn law_12()
 /// An open frame is a frame whose last block isn't full. A caller of [`EncoderState`](crate::EncoderState) writes the open
 /// frame of a message. This law states the length of the output so far, and how the open frame differs from the encoded frame.
 ///
-/// So if a caller makes the change of each [`PushResult`](crate::PushResult), the placeholder (the byte for the next code) is
-/// always within the output. The final output is the encoded frame, followed by 01 if the message ends in a full run.
+/// So if a caller does what each [`PushResult`](crate::PushResult) says, the placeholder (the byte for the next code)
+/// is always within the output. The final output is the encoded frame, followed by 01 if the message has two frames.
 ///
 /// ```
 /// fn as_encoded<'a>(frame: &'a [u8], message: &[u8], index: usize, code: u8) -> &'a [u8]

@@ -11,8 +11,8 @@ pub const WINDOW: usize = 32;
 /// The number of bytes in two windows. Data of up to this length is copied or moved in vectors.
 pub const WIDE_WINDOW: usize = 64;
 
-/// Returns whether the target has vector instructions that copy short data faster. On a target without them, a loop
-/// over bytes is faster, and its code is much smaller.
+/// Returns whether the target has vector instructions that copy short data faster than a loop over bytes. On a target
+/// without such instructions, the loop is faster than vectors, and its code is much smaller.
 // This function has no `ensures` clause, so its callers are proved for targets with and without such instructions. In
 // Rattle it returns `true`; in the Rust crate it returns a constant of the target.
 #[inline(always)]
@@ -58,7 +58,7 @@ pub fn zeros_at<const N: usize>(bytes: &[u8], at: usize) -> u64
         .to_bitmask()
 }
 
-/// Copies the `N` bytes of `source` from index `read` on to `dest`, from index `at` on. Returns a mask of the zeros
+/// Copies the `N` bytes that begin at index `read` of `source` to index `at` of `dest`. Returns a mask of the zeros
 /// among these bytes: bit `i` is set if the byte at index `read + i` is zero.
 #[inline(always)]
 pub fn copy_at<const N: usize>(source: &[u8], read: usize, dest: &mut [u8], at: usize) -> u64
@@ -73,7 +73,8 @@ pub fn copy_at<const N: usize>(source: &[u8], read: usize, dest: &mut [u8], at: 
     bytes.simd_eq(Simd::splat(0)).to_bitmask()
 }
 
-/// Returns a mask of the zeros among `N` to `2 * N` bytes. The bytes are read as two vectors that may overlap.
+/// Returns a mask of the zeros of `source`, which has `N` to `2 * N` bytes. The bytes are read as two vectors that may
+/// overlap.
 #[inline(always)]
 fn zeros_of_two<const N: usize>(source: &[u8]) -> u64
     requires lanes { N ≤ 32 }
@@ -109,8 +110,8 @@ pub fn first_zero(bytes: &[u8]) -> usize
     (zeros_of(bytes).trailing_zeros() as usize).min(bytes.len())
 }
 
-/// Copies `N` to `2 * N` bytes to `dest`, from index `at` on, as two vectors that may overlap. Returns a mask of the
-/// zeros among these bytes: bit `i` is set if byte `i` is zero.
+/// Copies `source`, which has `N` to `2 * N` bytes, to index `at` of `dest`, as two vectors that may overlap. Returns a
+/// mask of the zeros of `source`: bit `i` is set if byte `i` is zero.
 #[inline(always)]
 fn copy_two<const N: usize>(source: &[u8], dest: &mut [u8], at: usize) -> u64
     requires lanes { N ≤ 32 }
@@ -129,7 +130,8 @@ fn copy_two<const N: usize>(source: &[u8], dest: &mut [u8], at: usize) -> u64
     zeros
 }
 
-/// Copies up to 64 bytes to `dest`, from index `at` on. Returns a mask of their zeros: bit `i` is set if byte `i` is 0.
+/// Copies `source`, which has 1 to 64 bytes, to index `at` of `dest`. Returns a mask of the zeros of `source`: bit `i`
+/// is set if byte `i` is 0.
 #[inline(always)]
 pub fn copy_window(source: &[u8], dest: &mut [u8], at: usize) -> u64
     requires some { 0 < length source.now }
@@ -145,7 +147,7 @@ pub fn copy_window(source: &[u8], dest: &mut [u8], at: usize) -> u64
     }
 }
 
-/// Returns whether each of the 32 bytes from index `at` on equals `byte`.
+/// Returns whether all 32 bytes from index `at` on are equal to `byte`.
 #[inline(always)]
 pub fn is_all(bytes: &[u8], at: usize, byte: u8) -> bool
     requires { at + 32 ≤ length bytes.now }

@@ -19,8 +19,8 @@ pub const NONE: &str = "-";
 /// Parses the word as hexadecimal digits, and returns the bytes. The word `-` stands for no bytes.
 ///
 /// # Errors
-/// `Malformed` if the word isn't hexadecimal digits or `-`, or stands for more than [`MAX_BYTES`] bytes. `OutOfMemory`
-/// if memory ran out.
+/// `Malformed` if the word is neither hexadecimal digits nor `-`, or if it stands for more than [`MAX_BYTES`] bytes.
+/// `OutOfMemory` if memory ran out.
 pub fn bytes_of(alloc: Global, word: &str) -> Result<Vec<u8>, CaseFault>
     ensures none { word.now ≡ codes "-" → IfOk result (λ bytes. bytes.items ≡ []) }
     ensures digits { word.now ≢ codes "-"

@@ -169,8 +169,8 @@ impl CallResult {
         }
     }
 
-    /// Adds the kind of an outcome, and then its message, its number of decoded bytes, or `-` for a piece that is too
-    /// long.
+    /// Adds two words for an outcome. The first is its kind. The second is the message, the number of decoded bytes of
+    /// a broken piece, or `-` for a piece that is too long.
     pub fn say_outcome(&mut self, outcome: &FrameOutcome) -> Result<(), AllocError> {
         match outcome {
             FrameOutcome::Message(message) => {

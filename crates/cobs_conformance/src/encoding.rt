@@ -170,7 +170,8 @@ pub fn try_encode_with_sentinel(
     Ok(returned)
 }
 
-/// Runs a `CobsEncoder` with this buffer, and pushes each chunk of the message (`pieces`) to it.
+/// Runs a `CobsEncoder` that writes to `buffer`, the first argument. Pushes each other argument, a chunk of the message
+/// (`pieces`), to the encoder.
 pub fn encoder(alloc: Global, arguments: &[&str]) -> Result<CallResult, CaseFault> {
     let [buffer, pieces @ ..] = arguments else {
         return Err(CaseFault::Malformed);

@@ -26,8 +26,8 @@ pub fn words_of(alloc: Global, line: &str) -> Result<Vec<String>, CaseFault>
 /// Expands a word: expands each part, and joins the digits of all parts.
 ///
 /// # Errors
-/// `Malformed` if a part has two `*`, or no number after its `*`, or if there are more than [`MAX_DIGITS`] digits.
-/// `OutOfMemory` if memory ran out.
+/// `Malformed` if a part has two `*`, if a part has no number after its `*`, or if the expanded word has more than
+/// [`MAX_DIGITS`] digits. `OutOfMemory` if memory ran out.
 fn written_out(alloc: Global, word: &str) -> Result<String, CaseFault>
     ensures text { IfOk result (λ text. string_bytes text ≡ word_text word.now) }
     ensures limit { IfOk result (λ text. length (string_bytes text) ≤ MAX_DIGITS) }
@@ -52,7 +52,8 @@ fn split(alloc: Global, text: &str, separator: char) -> Result<Vec<&str>, AllocE
     text.split(separator).collect(alloc)
 }
 
-/// Expands a part of a word. `fields` has the part's digits and, if the part has one, the number of repetitions.
+/// Expands a part of a word. `fields` has the part's digits, followed by the number of repetitions if the part has such
+/// a number.
 fn repeated(alloc: Global, fields: &[&str]) -> Result<String, CaseFault>
     ensures text { IfOk result (λ text. string_bytes text
         ≡ repeated (map (λ field. field.now) fields.now)) }

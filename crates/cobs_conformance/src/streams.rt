@@ -67,7 +67,8 @@ impl Streaming for CobsDecoder<'_> {
     }
 }
 
-/// A decoder that uses the `feed_piece` that the trait provides. This `feed_piece` feeds one byte after another.
+/// A decoder that uses the `feed_piece` that the trait `FrameDecoder` provides. This `feed_piece` feeds one byte after
+/// another.
 #[derive(Drop)]
 struct ByBytes {
     decoder: CobsDecoderOwned,
@@ -102,12 +103,12 @@ impl Streaming for ByBytes {
 }
 
 /// Runs each of the three streaming decoders three times with the same buffer and input: with `push`, with single
-/// bytes, and with `feed_piece`. Returns the words of the first run. The words of each run with a wrong result are
-/// added to them, so that the case differs.
+/// bytes, and with `feed_piece`. Returns the words of the first run. If another run has a wrong result, the words of
+/// this run are added to the words of the first run, so that the case differs.
 ///
 /// # Errors
-/// `Malformed` if an argument can't be parsed, or if [`heapless`] has no buffer of this length. `OutOfMemory` if memory
-/// ran out.
+/// `Malformed` if an argument can't be parsed, or if [`heapless`] has no decoder whose buffer has the length of the
+/// case's buffer. `OutOfMemory` if memory ran out.
 pub fn decoder(alloc: Global, arguments: &[&str]) -> Result<CallResult, CaseFault> {
     let [buffer, pieces @ ..] = arguments else {
         return Err(CaseFault::Malformed);
@@ -192,7 +193,7 @@ fn in_itself<const N: usize>(
     given(alloc, &mut decoder, pieces, feeding)
 }
 
-/// Runs a [`ByBytes`], which uses the `feed_piece` that the trait provides.
+/// Runs a [`ByBytes`], which uses the `feed_piece` that the trait `FrameDecoder` provides.
 fn by_bytes(alloc: Global, buffer: &[u8], pieces: &[&str]) -> Result<CallResult, CaseFault> {
     let mut decoder = CobsDecoderOwned::new(alloc, buffer.len())?;
     write_over(decoder.dest_mut(), buffer);
@@ -206,7 +207,7 @@ fn write_over(dest: &mut [u8], bytes: &[u8]) {
     }
 }
 
-/// Passes each argument (`pieces`) to a decoder: the bytes of a chunk of the stream, or the word `reset`. Returns the
+/// Passes each chunk of the stream (`pieces`) to a decoder, and resets the decoder for the word `reset`. Returns the
 /// decoder's buffer at the end, and then each message and error.
 fn given<D: Streaming>(
     alloc: Global,
@@ -356,9 +357,9 @@ fn buffer_of(alloc: Global, room: &str) -> Result<Vec<u8>, CaseFault> {
     Ok(buffer)
 }
 
-/// Runs a [`FrameReader`] with a source that returns these reads. For each call of `next_frame`, returns the number of
-/// reads that it made, and its result. Stops when the source has ended and all reads were made, or after [`MOST_CALLS`]
-/// calls.
+/// Runs a [`FrameReader`] with a source whose reads have the results that the arguments list. For each call of
+/// `next_frame`, returns the number of reads that the call made, and the call's result. Stops when the source has ended
+/// and all reads were made, or after [`MOST_CALLS`] calls.
 pub fn next_frame(alloc: Global, arguments: &[&str]) -> Result<CallResult, CaseFault> {
     let [room, reads @ ..] = arguments else {
         return Err(CaseFault::Malformed);

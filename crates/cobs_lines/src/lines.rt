@@ -7,7 +7,8 @@ ghost use Rattle.cobs_lines.specs.Lines.{outcome_line};
 
 use std::io::{self, Write};
 
-/// The greatest number of bytes of a message that are converted to digits before the digits are written.
+/// The bytes of a message are converted to digits in chunks of up to this many bytes. The digits of a chunk are written
+/// before the next chunk is converted.
 const AT_ONCE: usize = 256;
 
 /// The least number of bytes for which computing the digits is faster than looking them up.

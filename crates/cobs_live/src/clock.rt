@@ -202,8 +202,8 @@ impl Times {
         }
     }
 
-    /// Writes the time of a piece: a number of seconds, the date and the time of day for `Stamp::Date`, or nothing for
-    /// `Stamp::Untimed`.
+    /// Writes the time of a piece: nothing for `Stamp::Untimed`, the date and the time of day for `Stamp::Date`, and a
+    /// number of seconds for the other stamps.
     fn write_time<W: Write>(&self, output: &mut W, stamp: Stamp) -> io::Result<()>
         ensures written { OnOk result
             (Appends (W.contents output.old) (W.contents output.new) (time_text stamp self.now)) }

@@ -64,7 +64,8 @@ fn color_of(kind: Kind) -> &'static [u8]
     }
 }
 
-/// Writes the title of a piece: its kind and, unless it is too long, the number of bytes that it decodes to.
+/// Writes the title of a piece: its kind, and then the number of bytes that the piece decodes to. The title of a piece
+/// that is too long has only the kind.
 fn write_title<W: Write>(output: &mut W, kind: Kind, len: usize) -> io::Result<()>
     ensures written { OnOk result
         (Appends (W.contents output.old) (W.contents output.new) (title kind len)) }
@@ -77,7 +78,8 @@ fn write_title<W: Write>(output: &mut W, kind: Kind, len: usize) -> io::Result<(
     }
 }
 
-/// Writes the start of a piece's line: the title, and a mark if decoded bytes of a broken or too long piece follow.
+/// Writes the start of a piece's line: the title, and the mark `partial` if the piece is broken or too long and has
+/// decoded bytes, which follow the mark.
 fn write_heading<W: Write>(output: &mut W, color: bool, piece: &Sight<'_>) -> io::Result<()>
     ensures written { OnOk result (Appends (W.contents output.old) (W.contents output.new)
         (heading color (seen_in piece.now))) }
@@ -86,7 +88,7 @@ fn write_heading<W: Write>(output: &mut W, color: bool, piece: &Sight<'_>) -> io
     write_mark(output, piece.kind, piece.bytes)
 }
 
-/// Writes the mark `partial` if decoded bytes of a broken or too long piece follow.
+/// Writes the mark `partial` if the piece is broken or too long, and has decoded bytes, which follow the mark.
 fn write_mark<W: Write>(output: &mut W, kind: Kind, bytes: &[u8]) -> io::Result<()>
     ensures written { OnOk result
         (Appends (W.contents output.old) (W.contents output.new) (mark kind bytes.now)) }

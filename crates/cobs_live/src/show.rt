@@ -32,11 +32,12 @@ use std::alloc::{AllocError, Global};
 use std::io::{BufWriter, ErrorKind, Write};
 use std::rt::Clock;
 
-/// The number of bytes in which the zero of a short frame is searched for first. They fill one vector. The second
-/// search is in [`NEAR`] bytes.
+/// The first search for the zero of a short frame looks at this many bytes, which fill one vector. The second search
+/// looks at [`NEAR`] bytes.
 const NEAREST: usize = 16;
 
-/// The number of bytes in which the zero of a short frame is searched for, before all bytes are passed to the decoder.
+/// The search for the zero of a short frame looks at up to this many bytes. If none of them is a zero, all bytes are
+/// passed to the decoder.
 const NEAR: usize = 64;
 
 /// The greatest number of bytes of one read: 64 KiB. If a read returns fewer bytes, the pieces that end in them are
@@ -56,8 +57,8 @@ pub const CHUNK_LEN: usize = 65_536;
 /// an interval in milliseconds, or `None`. With an interval, the counts so far are also written while bytes arrive, at
 /// most once per interval. A failure to write the counts isn't a fault.
 ///
-/// - `ReadFailed`: a read failed, for example because a serial line was unplugged. All pieces that had ended have been
-///   shown, and then `unfinished` if another piece had begun.
+/// - `ReadFailed`: a read failed, for example because a serial line was unplugged. All pieces that had ended before
+///   this read have been shown. If another piece had begun, `unfinished` has been shown after them.
 /// - `WriteFailed`: a write or a flush failed. Part of the text may have been written.
 /// - `OutputClosed`: a write or a flush failed because nobody reads the output any more.
 /// - `OutOfMemory`: memory ran out. Nothing was read, and nothing was written.
@@ -390,8 +391,9 @@ fn end_within(bytes: &[u8], most: usize) -> Option<usize>
     if zero < near { Some(zero + 1) } else { None }
 }
 
-/// Shows the piece with this number and these times. If the piece's text can be composed, the text is written in one
-/// call, or is kept and later written with the text of other pieces.
+/// Shows the piece with this number and these times. For a short message in some styles, the text is first composed in
+/// memory ([`Composed`]). The composed text is written in one call, or is kept and later written with the text of other
+/// pieces.
 #[inline(always)]
 fn show_at_once<W: Write>(
     output: &mut W,

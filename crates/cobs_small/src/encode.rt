@@ -6,8 +6,8 @@ ghost use Rattle.cobs_abi.specs.Encode.{Encodes, EncodesInPlace, EncodesTerminat
 use cobs::max_encoding_overhead;
 use cobs_abi::{Answer, done, encode_within, too_small, write_frame};
 
-/// Returns the length of the longest frame of a message of `message_len` bytes, or 0 if this length doesn't fit the
-/// type of the result.
+/// Returns the length of the longest frame of a message of `message_len` bytes, or 0 if the frame's length doesn't fit
+/// the type of the result.
 #[unsafe(no_mangle)]
 pub extern "C" fn jcobs_max_length(message_len: usize) -> usize
     ensures fits { max_encoded_len message_len < 2 ^ 64 → result ≡ max_encoded_len message_len }

@@ -1,4 +1,4 @@
-//! The three modes, each over any reader and any writer.
+//! The three modes. Each mode reads from any reader, and writes to any writer.
 ghost use Rattle.std.specs.Prelude.{◌≡◌, ◌≢◌, ◌≤◌, length, IfErr, IfOk, IfSome, OnOk};
 ghost use Rattle.std.specs.Io.KnownBytes.{Appends, Keeps};
 ghost use Rattle.cobs_tool.specs.Report.{report};

@@ -48,7 +48,8 @@ const OUTPUT_LEN: usize = 131_072;
 /// The system's error number of the last read or write that failed, if there is one.
 type Reason = Cell<Option<i32>>;
 
-/// The reasons why `show` failed, as the system's error numbers. They name the cause in the line on standard error.
+/// The reasons why `show` failed, as the system's error numbers. The line on standard error has the system's text for
+/// such a number.
 #[derive(Drop)]
 struct Reasons {
     /// The last error of the input or of standard output.
@@ -198,15 +199,17 @@ fn show(rt: &HostRuntime, task: &ShowTask<'_>, zone: TimeZone<'_>) -> anyhow::Re
     }
 }
 
-/// Opens a log, and returns a duplicate of the log's descriptor. The duplicate is never 0, 1 or 2. If standard output
-/// or standard error is closed, the log's own descriptor can have the number of that stream. Without the duplicate, the
-/// log would then contain everything that the program writes to that stream.
+/// Opens a log, and returns a duplicate of the log's descriptor. If standard output or standard error is closed, the
+/// descriptor that the system returns for the log can have the number of the closed stream, 1 or 2. The log would then
+/// contain everything that the program writes to that stream. The number of the duplicate is never 0, 1 or 2, so the
+/// program writes to the log only through the duplicate.
 fn open_log(rt: &HostRuntime, path: &str) -> io::Result<File> {
     let first = File::options().append(true).create(true).open(rt, path)?;
     first.try_clone()
 }
 
-/// A line that can be opened: its path, and the runtime to open it with.
+/// A line that can be opened: its path, the runtime to open it with, and the place for the error number of a failed
+/// read.
 #[derive(Drop)]
 struct Device<'a> {
     rt: &'a HostRuntime,

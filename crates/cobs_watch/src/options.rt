@@ -142,8 +142,8 @@ fn with_styles<'a>(alloc: Global, command: Command<'a>) -> Result<Command<'a>, E
     Ok(command.arg(bytes)?.arg(bare_style(alloc, "pcap")?)?)
 }
 
-/// Adds the options for the number, the time, the colour and the partial bytes of a piece to the command. The texts of
-/// `help.rt` name the possible values, so clap doesn't list them again.
+/// Adds the options for the number, the time and the colour of a piece, and for the decoded bytes of broken and too
+/// long pieces, to the command. The texts of `help.rt` name the possible values, so clap doesn't list them again.
 fn with_columns<'a>(alloc: Global, command: Command<'a>) -> Result<Command<'a>, Error> {
     let time = option(alloc, "time", "CLOCK")
         .short('t')

@@ -94,8 +94,7 @@ fn crc_of(name: &str) -> Option<Crc> {
     }
 }
 
-/// The parameters of a checksum, in the form in which the user writes them and the catalogue of CRC algorithms lists
-/// them.
+/// The parameters of a checksum, as the user writes them. The catalogue of CRC algorithms lists them in the same form.
 #[derive(Drop)]
 struct Written {
     width: Option<u64>,

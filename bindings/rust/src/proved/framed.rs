@@ -275,10 +275,10 @@ impl<D: FrameDecoder> FrameReader<D> {
     /// Decodes the stream up to the zero that ends the next piece, and returns the outcome of this piece. Returns
     /// `Next::End` if the source ends before such a zero.
     ///
-    /// The call first uses the bytes that earlier calls have kept. Then it makes up to 65,536 reads from the source: it
-    /// stops after the read that contains the end of a piece, after a failed read, and after a read that returned no
-    /// bytes. The call keeps the bytes after the end of the piece for the next call. After `Next::End` the stream may
-    /// continue, in this source or in another one.
+    /// The call first uses the bytes that earlier calls have kept. If no piece ends in these bytes, the call makes up
+    /// to 65,536 reads from the source. It stops after the first read that returned the end of a piece, that failed, or
+    /// that returned no bytes. The call keeps the bytes after the end of the piece for the next call. After `Next::End`
+    /// the stream may continue, in this source or in another one.
     ///
     /// # Errors
     /// - `Io` if the last read of this call failed.

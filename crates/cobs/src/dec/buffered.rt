@@ -72,8 +72,8 @@ impl<'a> CobsDecoder<'a> {
     ///   bytes of the output. `feed` returns this error for the first byte whose output doesn't fit, and for each byte
     ///   after that, up to and including the zero that ends the piece.
     ///
-    /// After every zero the decoder is idle. (The results for the bytes after an overflow are a choice of this
-    /// library.)
+    /// After every zero the decoder is idle. (The results for the bytes after the first byte whose output doesn't fit
+    /// are a choice of this library.)
     ///
     /// ```
     /// let mut buffer = [0; 2];
@@ -145,10 +145,11 @@ impl<'a> CobsDecoder<'a> {
     /// Returns the whole slice, for writing.
     ///
     /// If the caller writes while a piece is open, the results for this piece stay the same, but the bytes of its
-    /// message are unspecified. A piece is open from its first byte to the zero that ends it. A proof about a caller of
-    /// `dest_mut` can use the bytes of the slice while the returned reference is in use, but not the decoder's state
-    /// after the write. If the caller writes with [`write_dest`](crate::WriteBuffer::write_dest) instead, the proof can
-    /// also use that state.
+    /// message are unspecified. A piece is open from its first byte to the zero that ends it. While the returned
+    /// reference is in use, a proof about a caller of `dest_mut` can use facts about the bytes of the slice. After the
+    /// write, the proof can't use facts about the decoder's state. If the caller writes with
+    /// [`write_dest`](crate::WriteBuffer::write_dest) instead, the proof can also use facts about the decoder's state
+    /// after the write.
     ///
     /// ```
     /// let mut buffer = [7; 2];
@@ -207,7 +208,7 @@ impl WriteBuffer for CobsDecoder<'_> {
 ///
 /// This decoder returns the same results as [`CobsDecoder`](crate::CobsDecoder). Memory is allocated once, by `new`,
 /// and the buffer keeps its length. The rule that a zero ends each frame is from Cheshire and Baker's paper; the calls
-/// are those of the crate `cobs`.
+/// are those of the Rust crate `cobs`.
 ///
 /// ```
 /// let mut decoder = CobsDecoderOwned::new(alloc, 8)?;

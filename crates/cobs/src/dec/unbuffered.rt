@@ -45,7 +45,8 @@ pub struct UnbufferedDecoder {
     pub written: usize,
     /// How many bytes of the open block are still missing.
     pub missing: u8,
-    /// Not 0 if a block is open and isn't full. Then a zero joins this block and the next block.
+    /// Not 0 if the piece has begun, and the code of its last block so far is less than 255. If another block follows,
+    /// the output then has a zero between the bytes of the two blocks.
     pub joint: u8,
     /// Not 0 if the piece's output is too long for the buffer.
     pub too_long: u8,

@@ -13,7 +13,7 @@ use crate::error::DestBufTooSmallError;
 /// the slice begins with the frame of all bytes pushed so far, except for the code of the open block;
 /// [`finalize`](CobsEncoder::finalize) writes this code. The slice needn't be longer than the frame.
 ///
-/// The blocks are those of the paper by Cheshire and Baker; the calls are those of the crate `cobs`.
+/// The blocks are those of the paper by Cheshire and Baker; the calls are those of the Rust crate `cobs`.
 ///
 /// ```
 /// let mut dest = [170; 7];
@@ -62,7 +62,8 @@ impl<'a> CobsEncoder<'a> {
 
     /// Encodes the next bytes of the message.
     ///
-    /// An empty push always succeeds, and changes nothing. The bytes of the slice after the frame are never written.
+    /// An empty push always succeeds, and changes nothing. A push doesn't change the bytes of the slice after the frame
+    /// of all bytes pushed so far, including `bytes`.
     ///
     /// # Errors
     /// `DestBufTooSmallError` exactly if the encoded frame of all bytes pushed so far, including `bytes`, is longer

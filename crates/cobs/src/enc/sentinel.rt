@@ -15,8 +15,8 @@ use cobs_bytes::window::has_vectors;
 /// sentinel. No sentinel is written before or after the frame, and the bytes of `dest` after the frame stay as they
 /// were.
 ///
-/// Precondition: the frame fits `dest`. [`max_encoding_length`](crate::max_encoding_length) returns a length of `dest`
-/// that is always enough.
+/// Precondition: the frame fits `dest`. For the message's length, [`max_encoding_length`](crate::max_encoding_length)
+/// returns a length of `dest` that is always enough.
 ///
 /// Cheshire and Baker's paper describes frames for a sentinel other than 0.
 ///
@@ -78,8 +78,8 @@ pub fn try_encode_with_sentinel(
 
 /// Writes a 0, the encoded frame of `source` and another 0 to the front of `dest`, and returns how many bytes it wrote.
 ///
-/// The bytes of `dest` after the second 0 stay as they were. As in the crate `cobs`, one sentinel is before the frame
-/// and one is after it.
+/// The bytes of `dest` after the second 0 stay as they were. As in the Rust crate `cobs`, one sentinel is before the
+/// frame and one is after it.
 ///
 /// Precondition: the frame and both sentinels fit `dest`. A `dest` that is two bytes longer than the result of
 /// [`max_encoding_length`](crate::max_encoding_length) is always long enough. If you don't know whether the frame and

@@ -36,7 +36,7 @@ pub fn encode_vec(alloc: Global, source: &[u8]) -> Result<Vec<u8>, AllocError>
 /// Returns a vector that contains a 0, the encoded frame of `source`, and another 0.
 ///
 /// Precondition: [`max_encoding_length`](crate::max_encoding_length) of the message's length, plus 2, fits a `usize`.
-/// Memory is allocated once, for the longest frame that a message of this length can have, and both sentinels. The
+/// Memory is allocated once, for both sentinels and the longest frame that a message of this length can have. The
 /// returned vector contains only the frame of `source` and both sentinels. (This guarantee is this library's own.)
 ///
 /// # Errors

@@ -29,17 +29,17 @@ fn fits_each(taken: u8, bytes: &[u8], spare: usize) -> bool {
 /// Returns whether `spare` bytes are enough for the overhead of every message of `len` bytes, that is, whether `len` is
 /// at most 254 times `spare`. For up to 254 bytes, one spare byte is always enough.
 ///
-/// A direct comparison could overflow. Half of `len`, rounded up, is at most 127 times `spare` exactly if `len` is at
-/// most 254 times `spare`. The function adds `spare` to both sides of this comparison, and divides both sides by 128.
-/// So it divides only by 2 and by 128, which a small processor does with shifts.
+/// A direct comparison could overflow. `len` is at most 254 times `spare` exactly if half of `len`, rounded up, is at
+/// most 127 times `spare`. The function adds `spare` to both sides of this second comparison, and divides both sides by
+/// 128. So it divides only by 2 and by 128, which a small processor does with shifts.
 #[inline(always)]
 fn covers_overhead(len: usize, spare: usize) -> bool {
     len <= FULL_BLOCK_BYTES || (len - len / 2 + spare - 1) / 128 < spare
 }
 
 /// Returns whether the frame fits the buffer after `bytes` are appended to an open block of `taken` bytes. `room` is
-/// the number of bytes that the buffer has from the open block's code to its end. The function reads `bytes` only if
-/// their number doesn't decide whether the frame fits.
+/// the number of bytes from the open block's code to the end of the buffer. The function reads `bytes` only if their
+/// number doesn't decide whether the frame fits.
 // Inlined, because usually the number of bytes and `room` decide the result: for a short message, a call would cost
 // more than the comparisons.
 #[inline(always)]
@@ -54,9 +54,9 @@ pub(crate) fn has_room(taken: u8, bytes: &[u8], room: usize) -> bool {
 }
 
 /// Returns `Some` if the frame fits the buffer after `source` is appended to an open block of `taken` bytes, and
-/// otherwise `None`. `room` is the number of bytes that the buffer has from the open block's code to its end. The
-/// `Some` contains the length of the first run of `source`, so that the encoder needn't search for the end of this run
-/// again. If the function didn't search for the end of the first run, the `Some` contains 0.
+/// otherwise `None`. `room` is the number of bytes from the open block's code to the end of the buffer. The `Some`
+/// contains the length of the first run of `source`, so that the encoder needn't search for the end of this run again.
+/// If the function didn't search for the end of the first run, the `Some` contains 0.
 ///
 /// The function counts all full blocks except a full block at the end of the frame. It looks at the bytes that would
 /// fill the open block. If one of these bytes is a zero, the block doesn't become full, and the function continues
