@@ -86,12 +86,7 @@ module _ (f old : List ℕ) (result : Result DecodeReport DecodeError) (new : Li
     reads : (m : List ℕ) → Reads f m → length m ≤ length old → ReportsMessage result new m;
     only : IsPiece f → (m : List ℕ) → ReportsMessage result new m → Reads f m × (length m ≤ length old);
   }
-  decode_clauses = record {
-    answer = returned;
-    buffer = after;
-    reads = λ m r fits. (decode_reported (frame_piece r) m).1 (r, fits);
-    only = λ piece m. (decode_reported piece m).0;
-  }
+  decode_clauses = grind (arith, decode_reported, frame_piece)
 
 -- DECODING FROM A SOURCE FOR ANY SENTINEL
 
@@ -131,12 +126,7 @@ module _ (f old : List ℕ) (result : Result ℕ DecodeError) (new : List ℕ) (
     reads : (m : List ℕ) → Reads f m → length m ≤ length old → ReturnsMessage result new m;
     only : IsPiece f → (m : List ℕ) → ReturnsMessage result new m → Reads f m × (length m ≤ length old);
   }
-  source_clauses = record {
-    answer = returned;
-    buffer = after;
-    reads = λ m r fits. (source_reported (frame_piece r) m).1 (r, fits);
-    only = λ piece m. (source_reported piece m).0;
-  }
+  source_clauses = grind (arith, source_reported, frame_piece)
 
 -- DECODING IN PLACE, WHERE THE BUFFER IS THE SOURCE
 
@@ -163,10 +153,4 @@ module _ (f : List ℕ) (result : Result DecodeReport DecodeError) (new : List �
     only : IsPiece f → (m : List ℕ) → ReportsMessage result new m → Reads f m;
     room : IfErr result (λ error. error ≢ TargetBufTooSmall);
   }
-  in_place_clauses = record {
-    answer = returned;
-    buffer = after;
-    reads = λ m r. grind (arith, in_place_reported, frame_piece, frame_output, output_within);
-    only = λ piece m stated. ((in_place_reported piece m).0 stated).0;
-    room = in_place-room f result returned;
-  }
+  in_place_clauses = grind (arith, in_place_reported, frame_piece, frame_output, output_within, in_place-room)

@@ -1,7 +1,7 @@
 -- The outcome of a piece follows from its output's length and from whether it is whole (`outcome_of_whole` and the lemmas after
 -- it), and says as much of the piece (`outcome_says`): so it is `Message m` exactly if the piece is a frame of m that fits
 -- (`outcome_message`). The first piece of a stream is the bytes before its first zero: std's `take_while`.
-use Rattle.std.proofs.Common.{◌≡◌, ◌≢◌, ℕ, ◌<◌, ◌≤◌, ◌↔◌, List, [], ◌∷◌, ◌++◌, length, All, Some, refl, ap, ◌∙◌, arith, length-append, length-drop, length-take, false, not, ◌==◌, inl, inr}
+use Rattle.std.proofs.Common.{◌≡◌, ◌≢◌, ℕ, ◌<◌, ◌≤◌, ◌↔◌, List, [], ◌∷◌, ◌++◌, length, All, Some, refl, ap, arith, length-append, length-drop, length-take, false, not, ◌==◌, inl, inr}
 use Rattle.std.specs.List.{position_or_len, take_while}
 use Rattle.std.proofs.lemmas.Bool.{cases_eq, ne_eqb, eq-eqb, leb-true, leb-false}
 use Rattle.std.proofs.lemmas.List.Elements.{All-cons, All-nil, All-weaker, All-take}
@@ -24,15 +24,15 @@ reads_only f m r = (frame_some f m r, frame_nonzero f m r, frame_whole f m r, fr
 pub reads_iff : (f m : List ℕ) → All (λ b. b < 256) f → Reads f m ↔ ((f ≢ []) × HasNoZero f × IsWhole f × (m ≡ output f))
 reads_iff f m below = (
   λ r. reads_only f m r,
-  λ (some, nonzero, whole, is). rw is (reads_output f some nonzero below whole),
+  λ (some, nonzero, whole, is). rw is (grind (arith, reads_output)),
 )
 
 -- THE OUTPUT IS NO LONGER THAN THE PIECE
 
 pub output_within : (p : List ℕ) → length (output p) ≤ length p
 output_within =
-    by_parts (λ (p : List ℕ). length (output p) ≤ length p) (omega (arith, ap length (output-empty [] refl))) (λ code bytes short. grind (arith, output-last))
-    (λ code bytes more rest. grind (arith, output-more, joint_of, length-append, length-drop, length-take))
+    by_parts (λ (p : List ℕ). length (output p) ≤ length p) (omega (arith, ap length (output-empty [] refl))) (grind (arith, output-last))
+    (grind (arith, output-more, joint_of, length-append, length-drop, length-take))
 
 -- THE OUTCOME OF A PIECE
 
@@ -75,7 +75,7 @@ pub outcome_message : (f m : List ℕ) (n : ℕ) → IsPiece f → All (λ b. b 
 outcome_message f m n (some, nonzero) below = (
   λ e.
       let (fits, whole, is) = outcome_says f n e in
-      (rw is (reads_output f some nonzero below whole), omega (arith, ap length is)),
+      (rw is (grind (arith, reads_output)), omega (arith, ap length is)),
   λ (r, fits). outcome_frame f m n r fits,
 )
 
@@ -103,7 +103,7 @@ head-is (byte ∷ t) = elim (cases_eq byte 0) [
 ]
 
 pub length-head-is : (t : List ℕ) → length (head t) ≡ position_or_len (λ b. b == 0) t
-length-head-is t = ap length (head-is t) ∙ length-prefix_len (λ b. not (b == 0)) t
+length-head-is t = grind (arith, head-is, length-prefix_len)
 
 pub head_nonzero : (t : List ℕ) → HasNoZero (head t)
 unfolding head
@@ -114,7 +114,7 @@ pub head_all : (P : ℕ → Type 0) (t : List ℕ) → All P t → All P (head t
 head_all P t h = rw (head-is t) (All-take P _ t h)
 
 pub length-head : (t : List ℕ) → length (head t) ≤ length t
-length-head t = rw (head-is t) (omega (arith, length-take {A = ℕ}))
+length-head t = grind (arith, head-is, length-take)
 
 pub first_piece_head : (byte : ℕ) (bytes : List ℕ) → byte ≢ 0 → first_piece (byte ∷ bytes) ≡ Some (head (byte ∷ bytes))
 unfolding first_piece head
@@ -124,7 +124,7 @@ first_piece_head byte bytes some = grind (arith, ne_eqb, head-cons)
 pub head_reads : (byte : ℕ) (bytes m : List ℕ) → byte ≢ 0 → All (λ b. b < 256) (byte ∷ bytes) → (outcome_of (head (byte ∷ bytes)) (length (byte ∷ bytes)) ≡ Message m) ↔ Reads (head (byte ∷ bytes)) m
 head_reads byte bytes m some below =
     let t = byte ∷ bytes in
-    let piece : IsPiece (head t) = (λ e. absurd (cc (head-cons byte bytes some)), head_nonzero t) in
+    let piece : IsPiece (head t) = grind (arith, head-cons, head_nonzero) in
     let both = outcome_message (head t) m (length t) piece (head_all (λ b. b < 256) t below) in
     grind (arith, frame_output, output_within, length-head)
 

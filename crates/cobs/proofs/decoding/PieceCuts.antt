@@ -11,10 +11,10 @@ module _ (P : List ℕ → Type 0) (none : P []) (last : (code : ℕ) (bytes : L
     (more : (code : ℕ) (bytes : List ℕ) → code - 1 < length bytes → P (drop (code - 1) bytes) → P (code ∷ bytes)) where
   part_by_part : (n : ℕ) (p : List ℕ) → length p ≤ n → P p
   part_by_part n [] h = none
-  part_by_part zero (code ∷ bytes) h = absurd (omega arith)
+  part_by_part zero (code ∷ bytes) h = grind arith
   part_by_part (suc n) (code ∷ bytes) h = elim (cases_lt (code - 1) (length bytes)) [
     | inl long ↦ more code bytes long (part_by_part n (drop (code - 1) bytes) (omega (arith, length-drop (code - 1) bytes)))
-    | inr short ↦ last code bytes short
+    | inr short ↦ grind arith
   ]
 
   pub by_parts : (p : List ℕ) → P p

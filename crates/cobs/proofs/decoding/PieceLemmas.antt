@@ -38,7 +38,7 @@ grown-more code bytes b more rest = grind (arith, last_part-more, output-more, l
 grown : (c : ℕ) (p : List ℕ) (b : ℕ) → Grown (c ∷ p) b
 grown c p b =
     by_parts (λ (l : List ℕ). 0 < length l → Grown l b) (λ some. absurd (omega arith)) (λ code bytes short some. grown-last code bytes b short)
-    (λ code bytes more rest some. grown-more code bytes b more (rest (omega (arith, length-drop (code - 1) bytes)))) (c ∷ p) (omega arith)
+    (grind (arith, grown-more, length-drop)) (c ∷ p) (omega arith)
 
 pub last_part-empty : missing (last_part []) ≡ 0
 unfolding last_part parts parts_after

@@ -50,7 +50,7 @@ module _ (h : List ℕ) (at code : ℕ) (here : at < length h) (is : code ≡ ge
   ends-next some fits =
       let next : at + 1 + (code - 1) ≡ at + code = omega arith in
       let l = length-drop (at + 1) h in
-      rw next at (ends-start h (at + 1) (code - 1) (omega arith) front-left)
+      grind (arith, ends-start, front-left)
 
   -- the piece breaks off inside the block
   module _ (short : length h < at + code) where
@@ -94,7 +94,7 @@ kept-from (suc n) h at none small within most ends = elim (cases_lt at (length h
   | inl here ↦
       let code = get_or h at 0 in
       let some : 0 < code = grind (arith, All-get_or) in
-      let below : code < 256 = All-get_or (λ b. b < 256) h at 0 here small in
+      let below : code < 256 = grind (arith, All-get_or) in
       elim (cases_lt (length h) (at + code)) [
         | inl short ↦ (at + 1, (omega arith, broken-kept h at code here refl ends short))
         | inr fits ↦ kept-from n h (at + code) none small (omega arith) (omega arith) (ends-next h at code here refl ends some (omega arith))

@@ -184,7 +184,7 @@ module _ {h old buffer bytes next : List ℕ} {written code : ℕ} (none : bytes
   -- a zero joins it to the next block
   module _ (some : 0 < length next) (other : code ≢ 255) where
     zero-next : Written h old buffer written (0 ∷ kept_output next)
-    zero-next = rw (none, zero_before-some code next some other) at b.written-is
+    zero-next = grind (arith, zero_before-some)
 
     pub block-zero : written < length buffer → Left h old (set buffer written 0) (written + 1) next
     block-zero room = record { nonzero = b.nonzero; below = b.below; whole = b.whole; written-is = written-more zero-next 0 (kept_output next) refl room }

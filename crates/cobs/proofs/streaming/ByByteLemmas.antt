@@ -12,7 +12,7 @@ use Rattle.cobs.specs.declared.error.DecodeError.{DecodeError}
 use Rattle.cobs.specs.declared.dec.frame_decoder.PieceEnd.{PieceEnd}
 use Rattle.cobs.proofs.format.StreamLemmas.{fed-nonzero, unended-push, unended-no_zero, ended_pieces-no_zero}
 use Rattle.cobs.proofs.streaming.LastPiece.{overwritten-is, output-longer, last_piece-unended, last_piece-zero, ended_pieces-nonzero}
-use Rattle.cobs.proofs.streaming.SoFar.{takes-nothing, takes-more, TakesBytes-byte, outcome_reported, reported_by, count-within, phase_so_far, no_outcomes}
+use Rattle.cobs.proofs.streaming.SoFar.{takes-nothing, takes-more, TakesBytes-byte, outcome_reported, reported_by, count-within, no_outcomes}
 use Rattle.cobs_bytes.proofs.bytes.ListLemmas.{drop-later}
 
 -- THE RESULT FOR A ZERO
@@ -63,15 +63,15 @@ module _ {buffer₀ buffer buffer' : List ℕ} {phase₀ phase phase' : Phase} {
 
     pub untouched_behind : drop (length (output (last_piece (p ++ take (i + 1) bytes)))) buffer' ≡ drop (length (output (last_piece (p ++ take (i + 1) bytes)))) buffer₀
     untouched_behind = elim (cases_eq (get_or bytes i 0) 0) [
-      | inl z ↦ rw (last_zero z, f.zero_unchanged z) left_so_far
-      | inr nz ↦ rw (last_nonzero nz) (f.untouched _ (phase_so_far t.takes p h) nz ∙ drop-later _ _ _ _ (output-longer _ (get_or bytes i 0)) left_so_far)
+      | inl z ↦ grind (arith, last_zero, left_so_far)
+      | inr nz ↦ rw (last_nonzero nz) (f.untouched _ (grind arith) nz ∙ drop-later _ _ _ _ (output-longer _ (get_or bytes i 0)) left_so_far)
     ]
 
   -- the buffer begins with that output
   begins_behind : (p : List ℕ) → DecoderAfter buffer₀ phase₀ p
       → take (length (output (last_piece (p ++ take (i + 1) bytes)))) buffer' ≡ take (length buffer') (output (last_piece (p ++ take (i + 1) bytes)))
   begins_behind p h = elim (cases_eq (get_or bytes i 0) 0) [
-    | inl z ↦ rw (last_zero p h.phased z, f.zero_unchanged z) (t.takes.after p h).begins
+    | inl z ↦ grind (arith, last_zero)
     | inr nz ↦ rw (last_nonzero p h.phased nz) (rw (fed-nonzero _ _ nz) at (f.after _ (t.takes.after p h))).begins
   ]
 
@@ -107,12 +107,12 @@ module _ {buffer₀ buffer buffer' : List ℕ} {phase₀ phase phase' : Phase} {
         takes = takes;
         ends = record {
           front = take i bytes;
-          taken = rw (take_more bytes i 0 inside, z) refl;
+          taken = grind (arith, take_more);
           none_before = none_before;
         };
         holds = holds_behind;
         untouched = untouched_behind;
-        bound = λ p h. count-within end buffer' _ _ (takes.alike p h) fits;
+        bound = grind (arith, count-within);
         idle = f.zero_idle z;
-        within = (omega arith, fits);
+        within = grind arith;
       }

@@ -1,7 +1,7 @@
 -- A step of the machine of `Step` meets `Feeds` (`Feeds-step`): after a front of a piece, its phase and its buffer are
 -- those for the front with the byte, and its result is the one for the byte. By `PieceLemmas`, with one case for each
 -- phase.
-use Rattle.std.proofs.Common.{◌≡◌, ◌≢◌, ℕ, zero, suc, ◌+◌, ◌<◌, ◌≤◌, Bool, false, cond, leb, List, [], ◌∷◌, ◌++◌, length, take, drop, set, refl, sym, arith, length-append, Option, None, Result, Ok, Err, add-one, inl, inr, ◌⊎◌, true}
+use Rattle.std.proofs.Common.{◌≡◌, ◌≢◌, ℕ, zero, suc, ◌+◌, ◌<◌, ◌≤◌, Bool, false, cond, leb, List, [], ◌∷◌, ◌++◌, length, take, drop, set, refl, arith, length-append, Option, None, Result, Ok, Err, add-one, inr, ◌⊎◌, true}
 use Rattle.std.proofs.lemmas.List.{take_all, take-append-le, append-nil, length_push, take_more_set, set_past, drop-set-lt, length-set}
 use Rattle.std.proofs.lemmas.List.Elements.{All-push, All-nil}
 use Rattle.std.proofs.lemmas.Bool.{cases_lt, cond-true, cond-false, ne_eqb, le-leb, lt-leb, cases_Bool}
@@ -101,8 +101,8 @@ adds_same : (buffer : List ℕ) (c : ℕ) (q : List ℕ) (b : ℕ) (full : Bool)
     → let o = output (c ∷ q) in let o' = output (c ∷ q ++ b ∷ []) in let buffer' = next_buffer buffer (Within full left (length o)) b in
     ((o' ≡ o) × (buffer' ≡ buffer)) ⊎ ((w : ℕ) × (o' ≡ o ++ w ∷ []) × (buffer' ≡ set buffer (length o) w))
 adds_same buffer c q b full (suc left) is h = inr (b, grind (arith, output-push_more (c ∷ q) b), grind arith)
-adds_same buffer c q b true zero is h = inl (grind (arith, output-push_next, append-nil), grind arith)
-adds_same buffer c q b false zero is h = inr (0, grind (arith, output-push_next), grind (arith, ne_eqb))
+adds_same buffer c q b true zero is h = grind (arith, output-push_next, append-nil)
+adds_same buffer c q b false zero is h = grind (arith, output-push_next, ne_eqb)
 
 begins-nonzero : (buffer p : List ℕ) (b : ℕ) → b ≢ 0 → Begins buffer (output p) → Begins (next_buffer buffer (phase_after p (length buffer)) b) (output (p ++ b ∷ []))
 unfolding phase_after
@@ -151,13 +151,13 @@ result-bound n phase byte = grind arith
 -- the machine feeds a byte
 pub Feeds-step : (buffer : List ℕ) (phase : Phase) (b : ℕ) → let n = length buffer in Feeds buffer phase b (next_result n phase b) (next_buffer buffer phase b) (next_phase n phase b)
 Feeds-step buffer phase b = record {
-  returned = PhaseAfter-result_for (length buffer) phase b;
+  returned = grind (arith, PhaseAfter-result_for);
   phased = PhaseAfter-step (length buffer) phase b;
   after = DecoderAfter-step buffer phase b;
   untouched = PhaseAfter-untouched buffer phase b;
-  zero_idle = λ e. rw e (next_phase-zero (length buffer) phase);
-  zero_unchanged = λ e. rw e (next_buffer-zero buffer phase);
-  bound = result-bound (length buffer) phase b;
+  zero_idle = grind (arith, next_phase-zero);
+  zero_unchanged = grind (arith, next_buffer-zero);
+  bound = grind (arith, result-bound);
   len = length-next_buffer buffer phase b;
 }
 
@@ -168,8 +168,8 @@ Feeds-as {buffer} {buffer'} {phase} {phase'} {b} returned phase_is buffer_is = g
 
 -- a zero leaves the buffer, and the decoder idle
 pub Feeds-zero : (buffer : List ℕ) (phase : Phase) → Feeds buffer phase 0 (end_result (length buffer) phase) buffer Idle
-Feeds-zero buffer phase = Feeds-as refl (sym (next_phase-zero (length buffer) phase)) (sym (next_buffer-zero buffer phase))
+Feeds-zero buffer phase = Feeds-as refl (grind arith) (grind arith)
 
 -- a piece that is too long stays so up to its end
 pub Feeds-overlong : (buffer : List ℕ) (b : ℕ) → b ≢ 0 → Feeds buffer Overlong b (Err TargetBufTooSmall) buffer Overlong
-Feeds-overlong buffer b nz = Feeds-as (rw (ne_eqb b 0 nz) refl) (rw (ne_eqb b 0 nz) refl) refl
+Feeds-overlong buffer b nz = Feeds-as (grind arith) (grind arith) refl

@@ -57,28 +57,28 @@ module _ (buffer buffer' f more : List ℕ) (phase phase' : Phase) (idle : phase
   ended end count t =
       let k = length t.ends.front in
       let long : count ≡ k + 1
-      = sym (length-take-le count (f ++ 0 ∷ more) t.within.0) ∙ ap length t.ends.taken ∙ length-append t.ends.front (0 ∷ []) in
+      = sym (grind (arith, length-take-le)) ∙ ap length t.ends.taken ∙ length-append t.ends.front (0 ∷ []) in
       let front : t.ends.front ≡ take k (f ++ 0 ∷ more)
-      = sym (take_at t.ends.front (0 ∷ []) k refl) ∙ ap (take k) (sym t.ends.taken) ∙ take-take k count (f ++ 0 ∷ more) (omega arith) in
+      = sym (grind (arith, take_at)) ∙ ap (take k) (sym t.ends.taken) ∙ take-take k count (f ++ 0 ∷ more) (omega arith) in
       let none : stream_outcomes (take k (f ++ 0 ∷ more)) (length buffer) ≡ [] = rw front at (t.ends.none_before [] after.phased) in
-      let first = outcomes-first f more (length buffer) count piece.0 piece.1 (outcome_at end buffer') [] (sym (t.takes.outcomes [] after)) in
+      let first = outcomes-first f more (length buffer) count piece.0 piece.1 (outcome_at end buffer') [] (grind (arith, after)) in
       let short = outcomes-none f more (length buffer) k piece.0 piece.1 none in
-      (omega arith, first.1)
+      grind arith
 
   not_none : TakesPiece buffer phase (f ++ 0 ∷ more) None buffer' phase' → ⊥
-  not_none t = let none = t.takes.outcomes [] after in cc (stream_outcomes-front f more (length buffer) piece.0 piece.1)
+  not_none t = grind (arith, after, stream_outcomes-front)
 
   pub taken-piece : (result : Option (PieceEnd × ℕ)) → TakesPiece buffer phase (f ++ 0 ∷ more) result buffer' phase'
       → (end : PieceEnd) × (result ≡ Some (end, length f + 1)) × (outcome_at end buffer' ≡ outcome_of f (length buffer))
   taken-piece None t = absurd (not_none t)
-  taken-piece (Some (end, count)) t = let e = ended end count t in (end, rw e.0 refl, e.1)
+  taken-piece (Some (end, count)) t = grind (arith, ended)
 
   pub taken-reads : (result : Option (PieceEnd × ℕ)) → TakesPiece buffer phase (f ++ 0 ∷ more) result buffer' phase' → (m : List ℕ) → Reads f m → length m ≤ length buffer
       → (result ≡ Some (ends.Message (length m), length f + 1)) × (take (length m) buffer' ≡ m)
   taken-reads result t m r fits =
       let (end, is, outcome) = taken-piece result t in
       let within = (rw is at t).within.1 in
-      let at = message_at end buffer' m (rw (← t.takes.len) at within) (outcome ∙ outcome_frame f m (length buffer) r fits) in
+      let at = message_at end buffer' m (grind arith) (outcome ∙ outcome_frame f m (length buffer) r fits) in
       (cc, at.1)
 
   pub taken-only : (n count : ℕ) → TakesPiece buffer phase (f ++ 0 ∷ more) (Some (ends.Message n, count)) buffer' phase' → All (λ b. b < 256) f → Reads f (take n buffer')

@@ -69,10 +69,7 @@ module _ (h old new : List ℕ) (inner : UnbufferedDecoder) (k : ℕ) (whole : B
   counted = (quiet-at old new (take k h) (phase_of inner) run inner refl).0 ∙ ap length kept
 
   pub kept_fed : DecodedInPlace h old new result
-  kept_fed = record {
-    returned = grind (arith, counted, head_result-is, cases_eq, eq-eqb, ne_eqb);
-    buffer = quiet-written old new (take k h) (phase_of inner) run ∙ ap (overwritten old) kept;
-  }
+  kept_fed = grind (arith, counted, head_result-is, cases_eq, eq-eqb, ne_eqb, quiet-written, run)
 
   -- the same if the buffer isn't the source's own
   pub kept_fits : Decoded h old new result

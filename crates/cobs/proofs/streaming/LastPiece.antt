@@ -1,5 +1,5 @@
 -- The last piece of a stream, and outputs that grow with it: by `StreamLemmas` and `output-push`.
-use Rattle.std.proofs.Common.{◌≡◌, ◌≢◌, ℕ, ◌<◌, ◌≤◌, List, [], ◌∷◌, ◌++◌, length, take, drop, filter, refl, sym, ap, ◌∙◌, arith, append_assoc, length-append, take_at}
+use Rattle.std.proofs.Common.{◌≡◌, ◌≢◌, ℕ, ◌<◌, ◌≤◌, List, [], ◌∷◌, ◌++◌, length, take, drop, filter, refl, ap, ◌∙◌, arith, append_assoc, length-append, take_at}
 use Rattle.std.proofs.lemmas.List.{append-nil, take-append-drop}
 use Rattle.std.proofs.lemmas.List.Elements.{filter-append}
 use Rattle.cobs.specs.Grammar.{last_of}
@@ -37,7 +37,7 @@ ended_pieces-zero t = grind (arith, ended_pieces-append, stretches-piece, unende
 pub ended_pieces-nonzero : (t : List ℕ) (b : ℕ) → b ≢ 0 → ended_pieces (t ++ b ∷ []) ≡ ended_pieces t
 ended_pieces-nonzero t b h =
     let none = rw (unended-push t b, fed-nonzero (unended t) b h) at (unended_no_zero (t ++ b ∷ [])) in
-    ended_pieces-append t (b ∷ []) ∙ rw (ended_pieces-no_zero (unended t ++ b ∷ []) none) (append-nil (ended_pieces t))
+    grind (arith, ended_pieces-append, ended_pieces-no_zero, append-nil)
 
 -- where none had ended before a zero, the last piece is the one that it ends
 pub last_piece-zero : (t : List ℕ) → ended_pieces t ≡ [] → last_piece (t ++ 0 ∷ []) ≡ unended t
@@ -50,7 +50,7 @@ last_piece-zero t none = grind (arith, pieces, unended-zero, append-nil, ended_p
 output-end : (p tail : List ℕ) → (more : List ℕ) × (output (p ++ tail) ≡ output p ++ more)
 unfolding output parts parts_after
 output-end [] tail = (output tail, refl)
-output-end (c ∷ p) [] = ([], ap output (append-nil (c ∷ p)) ∙ sym (append-nil (output (c ∷ p))))
+output-end (c ∷ p) [] = grind (arith, append-nil)
 output-end (c ∷ p) (x ∷ tail) =
     let one = output-push c p x in
     let rest = output-end (c ∷ p ++ x ∷ []) tail in
@@ -64,7 +64,7 @@ output-longer p b = output-grows p (b ∷ [])
 
 -- so the output so far is the front of it
 pub output-begins : (p tail : List ℕ) → take (length (output p)) (output (p ++ tail)) ≡ output p
-output-begins p tail = let e = output-end p tail in rw e.1 (take_at (output p) e.0 (length (output p)) refl)
+output-begins p tail = let e = output-end p tail in rw e.1 (grind (arith, take_at))
 
 -- a buffer that begins with an output, as far as it fits, and is otherwise as before
 pub overwritten-is : (written buffer buffer' : List ℕ) → length buffer' ≡ length buffer → take (length written) buffer' ≡ take (length buffer') written → drop (length written) buffer' ≡ drop (length written) buffer

@@ -1,6 +1,6 @@
 -- Zeros outside a piece are fed quietly (`quiet-zeros`), and a piece is open after bytes that aren't zeros
 -- (`open-after`), by induction on the bytes.
-use Rattle.std.proofs.Common.{◌≡◌, ◌≢◌, ◌∙◌, ℕ, zero, suc, ◌<◌, ◌≤◌, true, false, List, [], ◌∷◌, length, take, refl, sym, arith}
+use Rattle.std.proofs.Common.{◌≡◌, ◌≢◌, ℕ, zero, suc, ◌<◌, ◌≤◌, true, false, List, [], ◌∷◌, length, take, refl, arith}
 use Rattle.std.proofs.lemmas.Bool.{ne_eqb, cases_Bool}
 use Rattle.std.proofs.lemmas.List.Elements.{All-head, All-tail}
 use Rattle.cobs.specs.Decode.{leading_zeros}
@@ -12,7 +12,7 @@ use Rattle.cobs.specs.Step.{next_phase}
 -- zeros outside a piece are fed quietly
 pub quiet-zeros : (buffer bytes : List ℕ) (n : ℕ) → n ≤ leading_zeros bytes → FeedsQuietly buffer Idle (take n bytes) buffer Idle
 quiet-zeros buffer bytes zero within = (refl, refl)
-quiet-zeros buffer [] (suc n) within = absurd (omega (arith, within))
+quiet-zeros buffer [] (suc n) within = grind arith
 quiet-zeros buffer (zero ∷ bytes) (suc n) within = (refl, quiet-zeros buffer bytes n (omega (arith, within)))
 quiet-zeros buffer (suc b ∷ bytes) (suc n) within = grind arith
 
@@ -25,14 +25,14 @@ opened n (Within true zero count) byte nz = grind (arith, ne_eqb)
 opened n (Within false zero count) byte nz = grind (arith, ne_eqb, cases_Bool)
 
 stays-open : (bytes buffer buffer' : List ℕ) (phase phase' : Phase) → HasNoZero bytes → FeedsQuietly buffer phase bytes buffer' phase' → phase ≢ Idle → phase' ≢ Idle
-stays-open [] buffer buffer' phase phase' none f begun = λ idle. begun (sym f.1 ∙ idle)
+stays-open [] buffer buffer' phase phase' none f begun = grind arith
 stays-open (byte ∷ bytes) buffer buffer' phase phase' none f begun =
-    stays-open bytes _ buffer' _ phase' (All-tail (λ b. b ≢ 0) byte bytes none) f.1 (opened (length buffer) phase byte (All-head (λ b. b ≢ 0) byte bytes none))
+    stays-open bytes _ buffer' _ phase' (All-tail (λ b. b ≢ 0) byte bytes none) f.1 (opened (length buffer) phase byte (grind arith))
 
 -- after bytes that aren't zeros a piece is open, if one was open before or there is a byte
 pub open-after : (bytes buffer buffer' : List ℕ) (phase phase' : Phase) → HasNoZero bytes → FeedsQuietly buffer phase bytes buffer' phase' → (phase ≡ Idle → 0 < length bytes) → phase' ≢ Idle
-open-after [] buffer buffer' Idle phase' none f some = absurd (omega (arith, some refl))
+open-after [] buffer buffer' Idle phase' none f some = grind arith
 open-after (byte ∷ bytes) buffer buffer' Idle phase' none f some =
-    stays-open bytes _ buffer' _ phase' (All-tail (λ b. b ≢ 0) byte bytes none) f.1 (opened (length buffer) Idle byte (All-head (λ b. b ≢ 0) byte bytes none))
-open-after bytes buffer buffer' (Within full left count) phase' none f some = stays-open bytes buffer buffer' _ phase' none f (λ e. absurd cc)
-open-after bytes buffer buffer' Overlong phase' none f some = stays-open bytes buffer buffer' _ phase' none f (λ e. absurd cc)
+    stays-open bytes _ buffer' _ phase' (All-tail (λ b. b ≢ 0) byte bytes none) f.1 (opened (length buffer) Idle byte (grind (arith, All-head)))
+open-after bytes buffer buffer' (Within full left count) phase' none f some = grind (arith, stays-open)
+open-after bytes buffer buffer' Overlong phase' none f some = grind (arith, stays-open)

@@ -97,4 +97,4 @@ module _ {buffer bytes buffer' : List ℕ} {phase phase' : Phase} {result : Resu
   push_message fits f m idle is r room = (push_reads (bytes_below bytes fits) f m idle is (frame_piece r)).1 (r, room)
 
   pub push_only : ((i : ℕ) → Fits w8 (get_or bytes i 0)) → (f m : List ℕ) → phase ≡ Idle → bytes ≡ f ++ 0 ∷ [] → IsPiece f → PushesMessage result buffer' m → Reads f m × (length m ≤ length buffer)
-  push_only fits f m idle is piece = (push_reads (bytes_below bytes fits) f m idle is piece).0
+  push_only fits f m idle is piece = grind (arith, push_reads, bytes_below)

@@ -7,7 +7,7 @@ use borrow.Author.Count.{below_more}
 use Rattle.std.proofs.lemmas.Grind.{common_steps}
 use Rattle.cobs.specs.Stream.{unended}
 use Rattle.cobs.specs.Feed.{DecoderAfter, Feeds, Idle, Phase, PhaseAfter, result_for}
-use Rattle.cobs.specs.FeedPiece.{TakesPiece, end_reported}
+use Rattle.cobs.specs.FeedPiece.{TakesPiece}
 use Rattle.cobs.specs.Internal.FeedsQuietly.{FeedsQuietly}
 use Rattle.cobs.specs.Push.{FeedsInTurn, PushesBytes, consumed, consumed_size, last_result, pushed_outcomes}
 use Rattle.cobs.specs.Fields.Report.{frame_size_of}
@@ -53,7 +53,7 @@ FeedsInTurn-push (x ∷ y ∷ xs) buffer₀ phase₀ (between, phase_between, f,
 pub Pushed-start : (buffer : List ℕ) (phase : Phase) (bytes : List ℕ) → Pushed buffer phase buffer phase bytes 0
 Pushed-start buffer phase bytes = record {
   piece = piece-nothing buffer phase;
-  quiet = λ p h place below. absurd (omega arith);
+  quiet = grind arith;
   zero_idle = λ front e. absurd (omega (arith, ap length e, length_push front 0));
   feeds = (refl, refl, refl);
 }
@@ -73,8 +73,8 @@ module _ {buffer₀ buffer buffer' : List ℕ} {phase₀ phase phase' : Phase} {
   -- the push continues
   pub Pushed-more : result ≡ Ok None → Pushed buffer₀ phase₀ buffer' phase' bytes (i + 1)
   Pushed-more e = record {
-    piece = piece-more bytes i within s.piece f (λ z. ap end_reported e);
-    quiet = λ p h. below_more (λ j. result_at p bytes (length buffer₀) j ≡ Ok None) i (s.quiet p h) (result_here p h ∙ e);
+    piece = piece-more bytes i within s.piece f (grind arith);
+    quiet = grind (arith, below_more, result_here);
     zero_idle = zero_behind;
     feeds = rw e at feeds_behind;
   }
@@ -86,24 +86,24 @@ module _ {buffer₀ buffer buffer' : List ℕ} {phase₀ phase phase' : Phase} {
       → ((p : List ℕ) → DecoderAfter buffer₀ phase₀ p → reported_by (get_or bytes i 0) result buffer' ≡ pushed_outcomes bytes r buffer')
       → IfOk r (λ found. IfSome found (λ report. frame_size_of report ≤ length buffer₀)) → PushesBytes buffer₀ phase₀ bytes r buffer' phase'
   ended r count last outcomes bound = let takes = takes_behind bytes i within s.piece f in record {
-    push_returns = rw (count, last) (λ p h place inside. ends_at p bytes (length buffer₀) i place result (s.quiet p h) (result_here p h) inside);
-    phased = rw (consumed, count) takes.phased;
-    after = rw (consumed, count) takes.after;
+    push_returns = grind (arith, ends_at, result_here);
+    phased = grind arith;
+    after = grind arith;
     holds = rw (consumed, count) (holds_behind bytes i within s.piece f);
     untouched = rw (consumed, count) (untouched_behind bytes i within s.piece f);
-    outcomes = rw (consumed, count) (λ p h. sym (takes.outcomes p h) ∙ outcomes p h);
+    outcomes = grind arith;
     some = λ _. omega arith;
     within = omega (arith, within);
     bound = bound;
     zero_idle = rw (consumed, count) zero_behind;
-    feeds = rw (consumed, count, last) feeds_behind;
+    feeds = grind (arith, feeds_behind);
     len = takes.len;
   }
 
   -- a message is reported
   pub pushed_some : (n : ℕ) → result ≡ Ok (Some n) → PushesBytes buffer₀ phase₀ bytes (Ok (Some (record { parsed_size = i + 1; frame_size = n }))) buffer' phase'
   pushed_some n e = ended (Ok (Some (record { parsed_size = i + 1; frame_size = n }))) refl (sym e)
-      (λ p h. rw (e, eq-eqb _ 0 (message_at_zero _ _ _ n (result_here p h.phased ∙ e))) refl) (rw (← s.piece.takes.len) (rw e at f.bound))
+      (λ p h. rw (e, eq-eqb _ 0 (message_at_zero _ _ _ n (result_here p h.phased ∙ e))) refl) (grind arith)
 
   -- an error is returned
   pub pushed_error : (e : DecodeError) → result ≡ Err e → PushesBytes buffer₀ phase₀ bytes (Err (record { error = e; parsed_size = i + 1 })) buffer' phase'
@@ -118,5 +118,5 @@ pushed_none {buffer₀} {buffer} {phase₀} {phase} bytes i all s = grind arith
 pub pushed_fed : {buffer₀ buffer buffer' : List ℕ} {phase₀ phase phase' : Phase} (bytes : List ℕ) (i r : ℕ) → i + r ≤ length bytes → Pushed buffer₀ phase₀ buffer phase bytes i
     → FeedsQuietly buffer phase (take r (drop i bytes)) buffer' phase' → Pushed buffer₀ phase₀ buffer' phase' bytes (i + r)
 pushed_fed {buffer₀} {phase₀ = phase₀} bytes i r within s f =
-    ran-on (λ buffer phase i. Pushed buffer₀ phase₀ buffer phase bytes i) bytes (λ buffer phase i within s quiet. Pushed-more bytes i within s (Feeds-step buffer phase (get_or bytes i 0)) quiet)
+    ran-on (λ buffer phase i. Pushed buffer₀ phase₀ buffer phase bytes i) bytes (λ buffer phase i within s quiet. Pushed-more bytes i within s (grind (arith, Feeds-step)) quiet)
     _ _ _ _ i r within s f

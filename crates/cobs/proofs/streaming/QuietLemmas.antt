@@ -93,7 +93,7 @@ within-by [] n full left count e fits = absurd (cc)
 within-by (c ∷ p) n full left count e fits = grind arith
 
 pub quiet-within : {old new p : List ℕ} {full : Bool} {left count : ℕ} → Quiet old new (Within full left count) p → Counts p count left
-quiet-within s = within-by _ _ _ _ _ s.after.phased.phase_is (omega (arith, s.fits))
+quiet-within s = grind (arith, within-by)
 
 module _ (old new p : List ℕ) (phase : Phase) (s : Quiet old new phase p) where
   pub quiet-written : new ≡ overwritten old (output p)

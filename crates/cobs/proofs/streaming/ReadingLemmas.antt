@@ -57,7 +57,7 @@ module _ {buffer buffer' : List ℕ} {phase phase' : Phase} {end : PieceEnd} {co
   HasDecoded-taken =
       let front = p ++ t.ends.front in
       let none = t.ends.none_before p h.phased in
-      let cut : p ++ take count bytes ≡ front ++ 0 ∷ [] = rw (t.ends.taken, append_assoc) refl in
+      let cut : p ++ take count bytes ≡ front ++ 0 ∷ [] = grind (arith, append_assoc) in
       grind (arith, HasDecoded-written, last_piece-zero, no_outcomes, outcomes_at, stream_outcomes-push)
 
 -- the first piece that ends in bytes after a stream t, in which no piece has ended
@@ -88,7 +88,7 @@ pub HasTaken-any : (buffer : List ℕ) (phase : Phase) (flag : Bool) (q : List �
 HasTaken-any buffer phase flag q some h = record {
   after = h;
   flag = ∥∥₁_elim some (Bool-set flag (is_nonempty q)) (λ w.
-      w.1.flag ∙ nonempty_phase w.0 (length buffer) ∙ ap not_idle (sym w.1.after.phased.phase_is ∙ h.phased.phase_is) ∙ sym (nonempty_phase q (length buffer)));
+      w.1.flag ∙ nonempty_phase w.0 (length buffer) ∙ ap not_idle (grind arith) ∙ sym (nonempty_phase q (length buffer)));
 }
 
 -- ONE MORE READ
@@ -124,8 +124,8 @@ module _ (front : List ℕ) (n : ℕ) (reads : List Read) (gave : All GaveBytes 
       let long = ap length e ∙ length-append earlier (read ∷ later) in
       let within : length earlier ≤ length reads = omega (arith, long, length-append reads more) in
       let same : take (length earlier) reads ≡ earlier
-      = sym (take-append-le (length earlier) reads more within) ∙ ap (take (length earlier)) e ∙ take_at earlier (read ∷ later) (length earlier) refl in
-      rw same at (called_after (length earlier) (omega arith))
+      = sym (grind (arith, take-append-le)) ∙ ap (take (length earlier)) e ∙ take_at earlier (read ∷ later) (length earlier) refl in
+      grind (arith, called_after)
 
 -- A CALL THAT GOES ON
 
@@ -150,7 +150,7 @@ module _ {S : Type 0} {step : S → Read → S → Type 0} {from to : S} {reader
   -- no piece has ended
   none_so_far : (g : Going step from to reader₀ reader unfinished count) → (p : List ℕ) → ReaderAfter reader₀ p
       → stream_outcomes (p ++ reader₀.kept ++ all_given g.reads) (length reader₀.buffer) ≡ []
-  none_so_far g p b = rw (← g.len) (g.at_end p b).none_ended
+  none_so_far g p b = grind arith
 
   -- one more read is the last
   ReadsNext-read : {to' : S} {reader' : ReaderState} {result : Result Next ReadFault} (read : Read) → count < 65536
@@ -161,11 +161,11 @@ module _ {S : Type 0} {step : S → Read → S → Type 0} {from to : S} {reader
       → ReadsNext step from to' reader₀ result reader'
   ReadsNext-read {to'} read few g s failed says = record {
     reads = g.reads ++ read ∷ [];
-    runs = Runs-push step from g.reads to to' read g.runs s;
+    runs = grind (arith, Runs-push);
     failed = (λ e. (g.reads, rw (failed.0 e) refl), λ l. failed.1 (last_read g.reads read None l));
     called_for = λ p b. called_for _ _ g.reads g.gave (none_so_far g p b) (read ∷ [])
         (omega arith) (omega (arith, length_push g.reads read, g.count_is));
-    result_says = λ p b. rw (given-push (p ++ reader₀.kept) g.reads read) (says p b);
+    result_says = grind (arith, given-push);
   }
 
   -- WHERE THE SOURCE GIVES NO MORE
@@ -195,11 +195,11 @@ module _ {S : Type 0} {step : S → Read → S → Type 0} {from to : S} {reader
     runs = g.runs;
     failed = (
       λ f. absurd cc,
-      λ l. absurd (All-head GaveBytes None [] (All-apart GaveBytes l.0 (None ∷ []) (rw l.1 at g.gave)).1 refl),
+      λ l. absurd (grind (arith, All-head, All-apart)),
     );
     called_for = λ p b.
-        rw append-nil at (called_for _ _ g.reads g.gave (none_so_far g p b) [] (omega arith) (rw append-nil (omega (arith, g.count_is))));
-    result_says = λ p b. (g.at_end p b, g.count_is ∙ all, g.gave);
+        rw append-nil at (called_for _ _ g.reads g.gave (none_so_far g p b) [] (omega arith) (grind (arith, append-nil)));
+    result_says = grind arith;
   }
 
 -- WHERE A PIECE ENDS
@@ -237,7 +237,7 @@ module _ {S : Type 0} {step : S → Read → S → Type 0} {from to to' : S} {re
       → ReadsNext step from to' reader₀ (Ok next) reader'
   ReadsNext-piece bytes next few g s len h idle = ReadsNext-read (Some bytes) few g s (λ f. absurd cc, λ n. absurd cc) (λ p b.
       let end = g.at_end p b in
-      Reports-first next _ _ bytes reader' (ap (stream_outcomes (p ++ reader₀.kept ++ all_given g.reads)) len ∙ end.none_ended) (h _ end.after) idle)
+      Reports-first next _ _ bytes reader' (grind arith) (h _ end.after) idle)
 
   -- they end no piece, and the call continues
   pub Going-push : (bytes : List ℕ) (unfinished' : Bool) → bytes ≢ [] → Going step from to reader₀ reader unfinished count → step to (Some bytes) to' → length reader'.buffer ≡ length reader.buffer
@@ -245,8 +245,8 @@ module _ {S : Type 0} {step : S → Read → S → Type 0} {from to to' : S} {re
       → Going step from to' reader₀ reader' unfinished' (count + 1)
   Going-push bytes unfinished' some g s len h = record {
     reads = g.reads ++ Some bytes ∷ [];
-    runs = Runs-push step from g.reads to to' (Some bytes) g.runs s;
-    count_is = length_push g.reads (Some bytes) ∙ rw g.count_is refl;
+    runs = grind (arith, Runs-push);
+    count_is = grind (arith, length_push);
     gave = All-push GaveBytes g.reads (Some bytes) g.gave some;
     at_end = λ p b.
         let t = p ++ reader₀.kept ++ all_given g.reads in

@@ -45,7 +45,7 @@ pub piece-run : {buffer₀ buffer buffer' : List ℕ} {phase₀ phase phase' : P
     → FeedsQuietly buffer phase (take r (drop i bytes)) buffer' phase' → TakesPiece buffer₀ phase₀ (take (i + r) bytes) None buffer' phase'
 piece-run {buffer₀} {phase₀ = phase₀} bytes i r within t f =
     ran-on (λ buffer phase i. TakesPiece buffer₀ phase₀ (take i bytes) None buffer phase) bytes
-    (λ buffer phase i within t quiet. piece-more bytes i within t (Feeds-step buffer phase (get_or bytes i 0)) (λ _. ap end_reported quiet)) _ _ _ _ i r within t f
+    (λ buffer phase i within t quiet. piece-more bytes i within t (grind (arith, Feeds-step)) (λ _. ap end_reported quiet)) _ _ _ _ i r within t f
 
 -- as do all bytes, fed in turn
 pub piece-all : (bytes buffer buffer' : List ℕ) (phase phase' : Phase) → FeedsQuietly buffer phase bytes buffer' phase'

@@ -3,7 +3,7 @@
 use Rattle.std.proofs.Common.{◌≡◌, ◌≢◌, ℕ, zero, suc, ◌+◌, ◌-◌, ◌<◌, ◌≤◌, List, [], ◌∷◌, ◌++◌, length, take, drop, refl, sym, ap, ◌∙◌, arith, append_assoc, length-append, length-take, length-drop, map, inl, inr, ◌⊎◌, Option, Some, None, Result, Ok, Err, cond, eqb}
 use Rattle.std.specs.List.{Contains}
 use Rattle.std.proofs.lemmas.List.{append-nil, nil_from_length, length-map, take_rest, take_all, take-append-drop}
-use Rattle.std.proofs.lemmas.List.Elements.{All-nil, All-cons, All-append, Contains-push_cases, Contains-append_cases}
+use Rattle.std.proofs.lemmas.List.Elements.{All-nil, All-append, Contains-push_cases, Contains-append_cases}
 use Rattle.std.proofs.lemmas.Bool.{leb-true, eq-eqb, ne_eqb}
 use Rattle.std.proofs.Math.Seq.{take-add}
 use Rattle.std.proofs.lemmas.Grind.{common_steps}
@@ -46,7 +46,7 @@ left_nothing (x ∷ xs) ys e = cc
 zero_or_none : (xs : List ℕ) → Contains xs 0 ⊎ HasNoZero xs
 zero_or_none [] = inr (All-nil (λ b. b ≢ 0))
 zero_or_none (zero ∷ xs) = grind arith
-zero_or_none (suc b ∷ xs) = elim (zero_or_none xs) [ inl h ↦ inl (suc h.0, omega arith, h.2) | inr h ↦ inr (All-cons (λ b. b ≢ 0) (suc b) xs (λ e. omega arith) h) ]
+zero_or_none (suc b ∷ xs) = elim (zero_or_none xs) [ inl h ↦ inl (suc h.0, omega arith, h.2) | inr h ↦ inr (grind arith) ]
 
 -- WHAT A BROKEN PIECE DECODES TO IS WITHIN THE BUFFER
 
@@ -112,19 +112,19 @@ module _ {buffer₀ buffer buffer' : List ℕ} {phase₀ phase phase' : Phase} {
       → TakesBytes buffer₀ phase₀ (done ++ more) (found ++ stated) buffer' phase'
   takes-more s t = record {
     len = t.len ∙ s.len;
-    feeds = FeedsEach-append done more buffer₀ buffer buffer' phase₀ phase phase' s.feeds t.feeds;
-    phased = λ p h. rw (unended_more p done more, ← s.len) (t.phased _ (phase_so_far s p h));
-    after = λ p h. rw (unended_more p done more) (t.after _ (s.after p h));
-    outcomes = λ p h. rw (outcomes_more p done more (length buffer₀), ← s.outcomes p h, reported_more s t p (s.after p h)) refl;
+    feeds = grind (arith, FeedsEach-append);
+    phased = grind (arith, unended_more, phase_so_far);
+    after = grind (arith, unended_more);
+    outcomes = grind (arith, outcomes_more, reported_more);
     alike = λ p h. elim (zero_or_none done) [
-      | inl old ↦ rw (outcomes_more p done more (length buffer₀), reported_more s t p (s.after_zero p h old)) (alike-append _ _ _ (s.alike p h))
+      | inl old ↦ grind (arith, outcomes_more, reported_more, alike-append)
       | inr none ↦
           let plain : stream_outcomes (p ++ done) (length buffer₀) ≡ [] = stream_outcomes-no_zero (p ++ done) (length buffer₀) (All-append (λ b. b ≢ 0) p done h.piece none) in
           rw (outcomes_more p done more (length buffer₀), plain, alike-nil found (rw plain at (s.alike p h)))
-          (rw s.len at (t.alike _ (phase_so_far s p h)))
+          (grind arith)
     ];
     after_zero = λ p h z. rw (unended_more p done more) (elim (Contains-append_cases done more 0 z) [
-      | inl old ↦ t.after _ (s.after_zero p h old)
+      | inl old ↦ grind arith
       | inr new ↦ t.after_zero _ (phase_so_far s p h) new
     ]);
   }
@@ -132,7 +132,7 @@ module _ {buffer₀ buffer buffer' : List ℕ} {phase₀ phase phase' : Phase} {
 -- a stream without outcomes has no ended pieces
 pub no_outcomes : (t : List ℕ) (n : ℕ) → stream_outcomes t n ≡ [] → ended_pieces t ≡ []
 unfolding stream_outcomes
-no_outcomes t n e = nil_from_length (ended_pieces t) (sym (length-map (ended_pieces t) (λ p. outcome_of p n)) ∙ ap length e)
+no_outcomes t n e = nil_from_length (ended_pieces t) (grind (arith, length-map))
 
 -- THE BYTES FROM A PLACE ON
 
@@ -149,7 +149,7 @@ module _ {buffer₀ buffer buffer' : List ℕ} {phase₀ phase phase' : Phase} {
   -- a piece ends in them after that many
   module _ (end : PieceEnd) (count : ℕ) (s : TakesBytes buffer₀ phase₀ (take i bytes) found buffer phase) (t : TakesPiece buffer phase (take (length bytes - i) (drop i bytes)) (Some (end, count)) buffer' phase') where
     pub takes-piece : TakesBytes buffer₀ phase₀ (take (i + count) bytes) (found ++ outcome_at end buffer' ∷ []) buffer' phase'
-    takes-piece = rw (take-add i count bytes) (takes-more s (rw (take_rest bytes i) at t.takes))
+    takes-piece = rw (take-add i count bytes) (takes-more s (grind (arith, take_rest)))
 
     -- so the stream has an outcome
     pub outcome_there : (p : List ℕ) → PhaseAfter (length buffer₀) phase₀ p → stream_outcomes (p ++ bytes) (length buffer₀) ≡ [] → ⊥

@@ -123,7 +123,7 @@ row_fed n inner dest bytes new some few going none due room ones is =
     let s : IsSpan inner n dest (replicate n 1)
     = record { room = room; long = long; going = going; full = λ e. absurd (due e); nonzero = ones-nonzero n; some = some; few = λ _. few } in
     let same = walked-any 1 code 0 (replicate n 1) (omega arith) in
-    let fed = open_fed s inner.joint {ys = replicate n 0} {code = 1} {left = 0} (grind (arith, row_ones)) (ne_eqb inner.joint 0 due) in
+    let fed = open_fed s inner.joint {ys = replicate n 0} {code = 1} {left = 0} (grind (arith, row_ones)) (grind arith) in
     grind (arith, length-replicate)
 
 -- what `joint_after` returns for a code

@@ -1,8 +1,7 @@
 -- Each message's frame has room in the rest of the slice (`room`, `fits`), and follows the frames that are written
 -- (`AreFrames-push`).
-use Rattle.std.proofs.Common.{◌≡◌, ◌+◌, ◌<◌, ◌≤◌, length, take, ap, subst, arith}
+use Rattle.std.proofs.Common.{◌≡◌, ◌+◌, ◌<◌, ◌≤◌, length, ap, arith}
 use Rattle.std.proofs.lemmas.List.{length-set}
-use Rattle.cobs.specs.Grammar.{IsEncodedFrame}
 use Rattle.cobs.specs.Length.{encoded_len}
 use Rattle.cobs.proofs.format.MessagesLemmas.{AreFrames-push, messages_in-more, room-step, written, room-some}
 use Rattle.cobs.proofs.format.LengthLemmas.{encoded_len-le}
@@ -39,7 +38,7 @@ by_message-preserved c =
     let len : c.encode-len.result < length c.encode-len.new.dest = omega arith in
     record {
       frames = rw (messages_in-more _ _ c.message-item.result c.by_message-test.true, ← c.message-item.is, written c.by_message.dest c.encode-len.new.dest _ c.by_message.end c.encode-len.result c.by_message.invariant.in_dest len)
-          (AreFrames-push _ _ _ _ c.by_message.invariant.frames (subst (λ m. IsEncodedFrame (take c.encode-len.result c.encode-len.new.dest) m) e c.encode-len.ensures.frame));
+          (grind (arith, AreFrames-push));
       within = rw (room-step _ _ c.message-item.result c.by_message-test.true c.message-item.is)
           (omega (arith, encoded_len-le c.message-item.result.items, ap encoded_len e));
       in_dest = simp length-set (omega arith);

@@ -1,5 +1,5 @@
 -- The bytes that are still to be decoded begin with the open block (`left-block`). Each of its bytes is moved to its place.
-use Rattle.std.proofs.Common.{◌≡◌, ◌∙◌, ◌+◌, ◌-◌, ◌<◌, ◌≤◌, ◌∷◌, [], ℕ, suc, List, length, take, drop, get_or, set, refl, sym, arith, length-drop, length-take-le, rules}
+use Rattle.std.proofs.Common.{◌≡◌, ◌+◌, ◌-◌, ◌<◌, ◌≤◌, ◌∷◌, [], ℕ, List, length, take, drop, get_or, set, arith, length-drop, length-take-le, rules}
 use Rattle.std.proofs.lemmas.List.{drop-drop, drop_more, get_or-drop, get_or-take}
 use Rattle.std.proofs.lemmas.List.Elements.{All-take}
 use Rattle.cobs.proofs.decoding.HeadlineLemmas.{bytes_below}
@@ -40,10 +40,7 @@ module _ (old : List ℕ) (end : ℕ) (fits : end ≤ length old) where
   module _ {buffer after : List ℕ} {written code : ℕ} (read next : ℕ) (b : BlockLeft h old buffer written (take (next - read) (drop read h)) code after)
       (order : written < read) (more : read < next) (here : read < end) where
     next-byte : take (next - read) (drop read h) ≡ get_or buffer read 0 ∷ take (next - (read + 1)) (drop (read + 1) h)
-    next-byte =
-        let one : next - read ≡ suc (next - (read + 1)) = omega arith in
-        let byte : get_or buffer read 0 ≡ get_or h read 0 = block-behind b read (omega arith) ∙ sym (get_or-take end old read 0 here) in
-        rw (one, drop_more h read 0 (omega (arith, long)), byte) refl
+    next-byte = grind (arith, block-behind, get_or-take, drop_more, long)
 
     byte-moved : BlockLeft h old (set buffer written (get_or buffer read 0)) (written + 1) (take (next - (read + 1)) (drop (read + 1) h)) code after
     byte-moved = block-more _ next-byte b (omega (arith, block-long b))
@@ -77,10 +74,7 @@ by_byte-init c =
     grind arith
 
 pub by_byte-preserved : goal.by_byte-preserved
-by_byte-preserved c =
-    let i = c.by_byte.invariant in
-    let moved = byte-moved _ _ c.requires.within _ _ i.left i.order i.inside (omega arith) in
-    grind arith
+by_byte-preserved c = grind (arith, byte-moved)
 
 -- the block is moved, and the next block follows it
 moved : (c : Joined-read-next) → let code = get_or c.by_block.buffer c.by_block.read 0 in

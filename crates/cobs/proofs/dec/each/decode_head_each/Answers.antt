@@ -1,6 +1,6 @@
 -- The bytes that are still to be decoded begin with the open block (`left-block`). Each of its bytes is written if there
 -- is room for it.
-use Rattle.std.proofs.Common.{◌≡◌, ◌∙◌, ◌-◌, ◌+◌, ◌<◌, ◌≤◌, ◌⊎◌, ◌∷◌, [], ℕ, List, Result, true, false, length, take, drop, get_or, sym, arith, inl, inr, Bool, eqb}
+use Rattle.std.proofs.Common.{◌≡◌, ◌∙◌, ◌-◌, ◌+◌, ◌<◌, ◌≤◌, ◌∷◌, [], ℕ, List, Result, true, false, length, take, drop, get_or, sym, arith, Bool, eqb}
 use Rattle.std.proofs.lemmas.Bool.{eqb-true}
 use Rattle.std.proofs.lemmas.List.{drop_all, drop_more, get_or-map, length-map, take-map}
 use Rattle.std.proofs.lemmas.List.Elements.{All-take}
@@ -95,7 +95,7 @@ by_byte-init c =
     rw (items-are rest s) (left-block c.by_block.invariant _ (omega (arith, long rest s)) (code-is rest s some) (omega (arith, long rest s, c.if-rest-code.false)))
 
 pub by_byte-preserved : goal.by_byte-preserved
-by_byte-preserved c = block-more _ (more-bytes _ _ _ c.by_byte-test.true) c.by_byte.invariant c.if-dest-written.false
+by_byte-preserved c = grind (arith, block-more, more-bytes)
 
 pub returns-then-dest-written : goal.returns-then-dest-written
 returns-then-dest-written c =
@@ -117,14 +117,7 @@ by_block-preserved-then-not-is_empty c =
     c.if-code-ne-FULL_CODE.true c.if-dest-written-2.false)
 
 pub by_block-preserved : goal.by_block-preserved
-by_block-preserved c =
-    let rest : List ℕ = c.by_block.rest.now in
-    let s : ℕ = c.args.sentinel in
-    let last : (length (drop (code rest s) (xor_each s rest)) ≡ 0) ⊎ (code rest s ≡ 255) = elim c.else-code-ne-FULL_CODE.branch [
-      | goal.else-code-ne-FULL_CODE-via-then-code-ne-FULL_CODE+else-not-is_empty w ↦ inl (next-long rest s ∙ none-left _ _ w.is_empty-then-code-ne-FULL_CODE.ensures w.if-not-is_empty.false)
-      | goal.else-code-ne-FULL_CODE-via-else-code-ne-FULL_CODE w ↦ inr w.if-code-ne-FULL_CODE.false
-    ] in
-    rw (next-is rest s) (block-last (bytes-ended _ _ _ c.by_byte-test.false) c.by_byte.invariant last)
+by_block-preserved c = grind (arith, next-long, none-left, next-is, block-last, bytes-ended)
 
 pub returns : goal.returns
 returns c =

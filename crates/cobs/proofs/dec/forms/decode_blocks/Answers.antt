@@ -25,10 +25,10 @@ module _ (c : After-take_blocks) where
   tail = c.saturating_sub-tail.result
 
   long : length h ≡ length c.args.source.now
-  long = length-map c.args.source.now (λ b. bit_xor b c.args.sentinel)
+  long = grind (arith, length-map, bit_xor)
 
   below : All (λ b. b < 256) h
-  below = xored_below c.args.sentinel c.args.source.now c.ranges.sentinel.fits c.type_inv.source
+  below = grind (arith, xored_below)
 
   first : FeedsQuietly c.args.dest.now Idle (take c.take_blocks.result h) c.take_blocks.new.dest (phase_of c.take_blocks.new.self)
   first = grind (arith, front_xored, take-take, length-take)

@@ -32,7 +32,7 @@ module _ (c : After-take_in_place) where
   new = c.take_in_place.new.buffer
 
   long : length h ≡ c.args.end
-  long = length-take-le c.args.end c.args.buffer.now c.requires.within
+  long = grind (arith, length-take-le)
 
   below : All (λ b. b < 256) h
   below = All-take (λ b. b < 256) c.args.end c.args.buffer.now (bytes_below _ (search rules))

@@ -19,6 +19,4 @@ pub returns-in-Some : goal.returns-in-Some
 returns-in-Some c = in_place_clauses _ _ _ c.in-Some.ensures.returned c.in-Some.ensures.buffer (bytes_below _ (search rules))
 
 pub returns-then-not-has_vectors : goal.returns-then-not-has_vectors
-returns-then-not-has_vectors c =
-    let e = c.decode_in_place_each.ensures in
-    in_place_clauses _ _ _ e.returned e.buffer (bytes_below _ (search rules))
+returns-then-not-has_vectors c = grind (arith, in_place_clauses, bytes_below)

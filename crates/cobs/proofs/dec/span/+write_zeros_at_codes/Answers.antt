@@ -1,8 +1,8 @@
 -- By induction on the codes. The bytes of the first code's block are left as they are, a zero replaces the next code,
 -- and a shorter list follows that code (`walked-next`). In the last block nothing is replaced (`walked-past`). The call
--- of the function itself needs three facts: its `dest` is shorter (`less`), its code is below 256, and its code and
--- bytes contain no zero (`rest`).
-use Rattle.std.proofs.Common.{◌≢◌, ◌<◌, ℕ, List, arith, drop, length, length-drop}
+-- of the function itself needs three facts: its `dest` is shorter (`length-drop`), its code is below 256, and its code
+-- and bytes contain no zero (`next-nonzero`).
+use Rattle.std.proofs.Common.{◌≢◌, ◌<◌, arith, length-drop}
 use Rattle.std.proofs.lemmas.List.Elements.{All-head}
 use Rattle.cobs.proofs.streaming.WalkLemmas.{behind-code, walked-next, walked-past, next-nonzero}
 use Rattle.cobs.proofs.dec.span.+write_zeros_at_codes.Goals as goal
@@ -11,14 +11,7 @@ pub returns-then-dest-first : goal.returns-then-dest-first
 returns-then-dest-first t c = grind (arith, walked-past)
 
 pub write_zeros_at_codes-requires : goal.write_zeros_at_codes-requires
-write_zeros_at_codes-requires t c =
-    let nz = c.requires.nonzero in
-    let bytes : List ℕ = c.args.dest.now in
-    let some : 0 < c.args.first = omega (arith, All-head (λ b. b ≢ 0) c.args.first bytes nz) in
-    let same = behind-code c.args.first bytes some (omega arith) in
-    let less : length (drop c.args.first bytes) < t = omega (arith, c.decreases, length-drop c.args.first bytes) in
-    let rest = next-nonzero c.args.first bytes some (omega arith) nz in
-    (rw (← same) at less, (omega arith, rw (← same) at rest))
+write_zeros_at_codes-requires t c = grind (arith, All-head, behind-code, length-drop, next-nonzero)
 
 pub returns : goal.returns
 returns t c =

@@ -32,7 +32,7 @@ module _ (bytes : List ℕ) (s at : ℕ) (here : at < length bytes) (h : List �
   next : 0 < code → at + code ≤ length bytes → missing (last_part (take (start + (at + code)) h)) ≡ 0
   next positive fits =
       let place : start + at + code ≡ start + (at + code) = omega arith in
-      rw place at (ends-next h (start + at) code (omega (arith, long)) code-is ends positive (omega (arith, long)))
+      grind (arith, ends-next, long, code-is)
 
   row : at + 32 ≤ length bytes → take 32 (drop at bytes) ≡ replicate 32 (bit_xor 1 s) → missing (last_part (take (start + (at + 32)) h)) ≡ 0
   row fits ones =
@@ -44,38 +44,25 @@ module _ (bytes : List ℕ) (s at : ℕ) (here : at < length bytes) (h : List �
     kept = grind (arith, broken-kept, code-is, long)
 
     broken : missing (last_part h) ≢ 0
-    broken = broken-last h (start + at) code (omega (arith, long)) code-is ends (omega (arith, long))
+    broken = grind (arith, broken-last, long, code-is)
 
 pub by_block-init : goal.by_block-init
 by_block-init c = grind (arith, ends-start, length-map)
 
 pub by_block-preserved : goal.by_block-preserved
-by_block-preserved c = record {
-  within = omega arith;
-  ends = λ h start is missed.
-      let ends = c.by_block.invariant.ends h start is missed in
-      next _ _ _ c.by_block-test.true h start is ends (some _ _ _ c.by_block-test.true c.requires.nonzero) (omega arith);
-}
+by_block-preserved c = grind (arith, next, some)
 
 pub by_block-preserved-then-is_all : goal.by_block-preserved-then-is_all
-by_block-preserved-then-is_all c = record {
-  within = omega arith;
-  ends = λ h start is missed.
-      let ends = c.by_block.invariant.ends h start is missed in
-      row _ _ _ c.by_block-test.true h start is ends (omega arith) (c.is_all.ensures c.if-is_all.true);
-}
+by_block-preserved-then-is_all c = grind (arith, row)
 
 pub by_block-smaller : goal.by_block-smaller
 by_block-smaller c = grind (arith, some)
 
 pub returns-then-rest-code-clause-kept : goal.returns-then-rest-code-clause-kept
-returns-then-rest-code-clause-kept c h start is missed =
-    kept _ _ _ c.by_block-test.true h start is (c.by_block.invariant.ends h start is missed) (omega arith)
+returns-then-rest-code-clause-kept c h start is missed = grind (arith, kept)
 
 pub returns-then-rest-code-clause-whole : goal.returns-then-rest-code-clause-whole
-returns-then-rest-code-clause-whole c h start is missed =
-    let no = broken _ _ _ c.by_block-test.true h start is (c.by_block.invariant.ends h start is missed) (omega arith) in
-    grind arith
+returns-then-rest-code-clause-whole c h start is missed = grind (arith, broken)
 
 pub returns-clause-kept : goal.returns-clause-kept
 returns-clause-kept c h start is missed = grind (arith, take_all, length-map, length-drop, whole-kept)

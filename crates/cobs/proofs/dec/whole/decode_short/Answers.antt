@@ -56,10 +56,7 @@ module _ (c : goal.After-map) where
   head-len = ap length (sym is ∙ same) ∙ long
 
 pub returns-clause-short : goal.returns-clause-short
-returns-clause-short c =
-    let e = c.in_ok-left.ensures in
-    let end = c.len_without_end-len.ensures.last in
-    (omega (arith, e.some, long c, head-len c), omega (arith, e.few, long c, head-len c), omega (arith, end, head-len c))
+returns-clause-short c = grind (arith, long, head-len)
 
 pub returns-clause-returned : goal.returns-clause-returned
 returns-clause-returned c =

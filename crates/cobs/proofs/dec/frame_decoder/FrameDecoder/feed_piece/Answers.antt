@@ -1,6 +1,6 @@
 -- Each byte continues the piece (`piece-more`) or ends it (`piece-ended`).
 use Rattle.std.proofs.lemmas.List.{take_all}
-use Rattle.std.proofs.Common.{arith, ◌∙◌, refl, sym}
+use Rattle.std.proofs.Common.{arith, refl}
 use Rattle.cobs.proofs.streaming.ByByteLemmas.{piece-nothing, piece-more, piece-ended}
 use Rattle.cobs.proofs.dec.frame_decoder.FrameDecoder.feed_piece.Goals as goal
 
@@ -8,15 +8,15 @@ pub by_byte-init : goal.by_byte-init
 by_byte-init g c = record { taken = piece-nothing _ _; same_loan = refl }
 
 pub returns-in-Some-clause-takes : goal.returns-in-Some-clause-takes
-returns-in-Some-clause-takes g c = piece-ended _ _ c.by_byte-test.true c.by_byte.invariant.taken c.feed_byte-returned.ensures.feeds _ c.if-byte-eq0.true (sym c.in-Some.ensures.end)
+returns-in-Some-clause-takes g c = piece-ended _ _ c.by_byte-test.true c.by_byte.invariant.taken c.feed_byte-returned.ensures.feeds _ c.if-byte-eq0.true (grind arith)
 
 pub by_byte-preserved : goal.by_byte-preserved
 by_byte-preserved g c = record {
   taken = piece-more _ _ c.by_byte-test.true c.by_byte.invariant.taken c.feed_byte-returned.ensures.feeds (λ z. elim c.if-byte-eq0.branch [
-    | goal.then-byte-eq0+in_default w ↦ sym w.in_default.ensures.end
-    | goal.else-byte-eq0 w ↦ absurd (w.if-byte-eq0.false z)
+    | goal.then-byte-eq0+in_default w ↦ grind arith
+    | goal.else-byte-eq0 w ↦ grind arith
   ]);
-  same_loan = c.feed_byte-returned.ensures.same_loan ∙ c.by_byte.invariant.same_loan;
+  same_loan = grind arith;
 }
 
 pub returns-clause-takes : goal.returns-clause-takes

@@ -39,28 +39,28 @@ pub by_byte-preserved-else-here-ne0 : goal.by_byte-preserved-else-here-ne0
 by_byte-preserved-else-here-ne0 c =
     let e = c.take_byte.ensures in
     let nonzero = c.if-byte-ne0.true in
-    next _ _ _ c.by_byte-test.true c.by_byte.invariant _ refl (Feeds-as refl (e.phase nonzero) (e.buffer nonzero)) (λ z. absurd (nonzero z))
+    next _ _ _ c.by_byte-test.true c.by_byte.invariant _ refl (Feeds-as refl (e.phase nonzero) (e.buffer nonzero)) (grind arith)
 
 pub by_byte-preserved : goal.by_byte-preserved
 by_byte-preserved c =
-    let none = ap end_reported (sym c.end.ensures.returned) ∙ sym c.reported.ensures.end ∙ c.in_default.is in
+    let none = ap end_reported (grind arith) ∙ sym c.reported.ensures.end ∙ c.in_default.is in
     rw c.end.ensures.idle (next _ _ _ c.by_byte-test.true c.by_byte.invariant 0 c.if-byte-ne0.false (Feeds-zero _ _) (λ _. none))
 
 pub returns-in-Some : goal.returns-in-Some
 returns-in-Some c =
-    let end = ap end_reported (sym c.end.ensures.returned) ∙ sym c.reported.ensures.end ∙ c.in-Some.is in
+    let end = ap end_reported (grind arith) ∙ sym c.reported.ensures.end ∙ c.in-Some.is in
     record { takes = ended _ _ _ c.by_byte-test.true c.by_byte.invariant c.if-byte-ne0.false (Feeds-zero _ _) _ end }
 
 pub to_end-init : goal.to_end-init
 to_end-init c = elim c.if-here-eq0.branch [
   | goal.then-here-eq0+else-by_byte-test w ↦
-      rw (w.dest-is, w.here-is, w.taken-is) (record { none_ended = w.by_byte.invariant; overlong = λ more. absurd (omega (arith, w.by_byte-test.false)) })
+      rw (w.dest-is, w.here-is, w.taken-is) (grind arith)
   | goal.then-here-eq0+then-by_byte-test+then-byte-ne0+then-here-ne0 w ↦
       let e = w.take_byte.ensures in
       let nonzero = w.if-byte-ne0.true in
       rw (w.dest-is, w.here-is, w.taken-is) (record {
-        none_ended = next _ _ _ w.by_byte-test.true w.by_byte.invariant _ refl (Feeds-as refl (e.phase nonzero) (e.buffer nonzero)) (λ z. absurd (nonzero z));
-        overlong = λ _. over_is w.take_byte.new.self w.if-here-ne0.true;
+        none_ended = next _ _ _ w.by_byte-test.true w.by_byte.invariant _ refl (Feeds-as refl (e.phase nonzero) (e.buffer nonzero)) (grind arith);
+        overlong = grind (arith, over_is);
       })
   | goal.else-here-eq0 w ↦ rw (w.dest-is, w.here-is, w.taken-is) (record { none_ended = piece-nothing _ _; overlong = λ _. over_is c.args.self.now w.if-here-eq0.false })
 ]
@@ -77,7 +77,7 @@ to_end-preserved c =
     let over = c.to_end.invariant.overlong more in
     let taken = rw over at c.to_end.invariant.none_ended in
     record {
-      none_ended = rw over (next _ _ _ more taken _ refl (Feeds-overlong _ _ c.if-byte-eq0.false) (λ z. absurd (c.if-byte-eq0.false z)));
+      none_ended = rw over (next _ _ _ more taken _ refl (Feeds-overlong _ _ c.if-byte-eq0.false) (grind arith));
       overlong = λ _. over;
     }
 

@@ -25,7 +25,7 @@ ended_at true (suc left) count n phase' result f none = grind (arith, f.returned
 
 ended_by : (written missing joint too_long n : ℕ) (phase' : Phase) (result : Result (Option ℕ) DecodeError) → too_long ≡ 0 → 0 < written
     → FeedsByTable n (phase_of (record { written = written; missing = missing; joint = joint; too_long = too_long })) 0 result phase' → end_reported result ≢ None
-ended_by zero missing joint too_long n phase' result going some f = absurd (omega arith)
+ended_by zero missing joint too_long n phase' result going some f = grind arith
 ended_by (suc count) missing joint too_long n phase' result going some f = grind (arith, ended_at)
 
 -- a zero ends a piece that has begun

@@ -1,6 +1,6 @@
 -- There is no room for the byte at index `start`, so no piece ends in it (`piece-more`), and the piece is too long. The
 -- bytes after it, up to a zero, don't end the piece (`piece-over`).
-use Rattle.std.proofs.Common.{◌≡◌, ◌∙◌, ◌+◌, ◌-◌, ℕ, List, refl, arith, length, drop, length-drop, length-take}
+use Rattle.std.proofs.Common.{◌≡◌, ◌+◌, ◌-◌, ℕ, List, refl, arith, length, drop, length-drop, length-take}
 use Rattle.std.proofs.lemmas.List.{take_rest}
 use Rattle.cobs.specs.Feed.{Overlong}
 use Rattle.cobs.specs.Fields.Decoders.{phase_of}
@@ -15,6 +15,6 @@ returns-clause-none_ended c buffer phase before =
     let next : ℕ = c.args.start + 1 in
     let e = c.position_or_len.ensures in
     let nz = c.requires.nonzero in
-    let over : phase_of c.take_byte.new.self ≡ Overlong = c.take_byte.ensures.phase nz ∙ c.requires.full in
+    let over : phase_of c.take_byte.new.self ≡ Overlong = grind arith in
     let one = piece-more bytes c.args.start c.requires.start before (Feeds-as refl (c.take_byte.ensures.phase nz) (c.take_byte.ensures.buffer nz)) (λ z. absurd (nz z)) in
-    rw over (piece-over bytes next _ (omega (arith, e.within, length-take (length bytes - next) (drop next bytes), length-drop next bytes)) (rw (take_rest bytes next) at e.before) (rw over at one))
+    rw over (piece-over bytes next _ (omega (arith, e.within, length-take (length bytes - next) (drop next bytes), length-drop next bytes)) (grind (arith, take_rest)) (rw over at one))

@@ -11,8 +11,7 @@ pub write_zeros_at_copied-requires-clause-nonzero : goal.write_zeros_at_copied-r
 write_zeros_at_copied-requires-clause-nonzero c = grind arith
 
 pub returns-then-len-missing-clause-fed : goal.returns-then-len-missing-clause-fed
-returns-then-len-missing-clause-fed c before xs room long is =
-    kept c.args.self.now (length c.args.copied.now) c.args.dest.now (rw (← c.requires.copied) at c.requires.nonzero) before xs room long is c.requires.going c.requires.full c.requires.few c.if-len-missing.true
+returns-then-len-missing-clause-fed c before xs room long is = grind (arith, kept)
 
 pub returns-clause-fed : goal.returns-clause-fed
 returns-clause-fed c before xs room long is =

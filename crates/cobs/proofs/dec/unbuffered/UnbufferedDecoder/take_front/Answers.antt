@@ -55,8 +55,8 @@ pub write_zeros_at_copied-code-requires-clause-copied : goal.write_zeros_at_copi
 write_zeros_at_copied-code-requires-clause-copied c =
     let bytes : List ℕ = c.args.bytes.now in
     rw (xor_each-zero (take (length bytes - 1) (drop 1 bytes)))
-        (front-is bytes c.args.dest.now c.copy_window-zeros.new.dest c.if-len-lt2.false c.requires.few c.requires.nonzero
-            c.copy_window-zeros.ensures.copied ∙ sym (take_rest bytes 1))
+    (front-is bytes c.args.dest.now c.copy_window-zeros.new.dest c.if-len-lt2.false c.requires.few c.requires.nonzero
+    c.copy_window-zeros.ensures.copied ∙ sym (take_rest bytes 1))
 
 pub write_zeros_at_copied-code-requires-clause-nonzero : goal.write_zeros_at_copied-code-requires-clause-nonzero
 write_zeros_at_copied-code-requires-clause-nonzero c =
@@ -64,9 +64,9 @@ write_zeros_at_copied-code-requires-clause-nonzero c =
     let copied : List ℕ = c.copy_window-zeros.new.dest in
     let is = c.copy_window-zeros.ensures.copied in
     rw (front-is bytes c.args.dest.now copied c.if-len-lt2.false c.requires.few c.requires.nonzero is)
-        (nonzero bytes c.args.dest.now copied c.if-len-lt2.false c.requires.few c.requires.nonzero is)
+    (nonzero bytes c.args.dest.now copied c.if-len-lt2.false c.requires.few c.requires.nonzero is)
 
 pub returns-clause-fed : goal.returns-clause-fed
 returns-clause-fed c taken =
     rw c.requires.idle (fed c.args.bytes.now c.args.dest.now c.copy_window-zeros.new.dest c.if-len-lt2.false c.requires.few c.requires.nonzero
-        c.copy_window-zeros.ensures.copied c.if-dest-len.false _ _ _ _ c.write_zeros_at_copied-code.ensures (joint-is _ _ c.joint_after.ensures.full c.joint_after.ensures.other))
+    c.copy_window-zeros.ensures.copied c.if-dest-len.false _ _ _ _ c.write_zeros_at_copied-code.ensures (joint-is _ _ c.joint_after.ensures.full c.joint_after.ensures.other))
