@@ -94,8 +94,8 @@ jcobs: Consistent Overhead Byte Stuffing for C and C++, as one file of C
     cc -I. examples/send_lines.c jcobs.c -o send_lines
     echo hello | ./send_lines
 
-jcobs.c compiles with any C99 compiler. jcobs.h describes each call, jcobs.3 is the manual page (man ./jcobs.3), and jcobs.hpp has
-the calls for C++17. Most of jcobs.c is translated from proved code. The comment at its top says what is proved, and how the file
+jcobs.c compiles with any C99 compiler. jcobs.h describes each call, and jcobs.3 is the manual page (man ./jcobs.3). jcobs.hpp is
+for C++17: it has functions for whole messages, and the classes jcobs::receiver and jcobs::sender. Most of jcobs.c is translated from proved code. The comment at its top says what is proved, and how the file
 is tested.
 END
         packed "$folder/$name_of-c-source.tar.gz" "$work/c-source" "$name_of-c-source"
