@@ -1,5 +1,8 @@
 //! The calls of the streaming encoder, and the call that encodes a message in place. A program in C keeps the encoder's
 //! state. Each call returns an [`Answer`], the result as C sees it.
+//!
+//! A call of a law, such as `law_13()`, does nothing when it runs: it lets the proof of the function use the clauses of
+//! the law.
 ghost use Rattle.std.specs.Prelude.{◌≡◌, ◌<◌, ◌^◌, [], ◌∷◌};
 ghost use Rattle.cobs.specs.Fields.Encoders.{reached_by};
 ghost use Rattle.cobs.specs.OpenBlock.{end_of};

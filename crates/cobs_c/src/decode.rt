@@ -71,9 +71,10 @@ fn rejected(source: &[u8], room: usize, error: DecodeError, consumed: &mut usize
     (returned.status, returned.length)
 }
 
-/// Decodes the first frame of a source that [`decode_short`] doesn't decode. Returns the status and the length of the
-/// result, and stores the number of consumed bytes in `consumed`. This code is a separate function, so that
-/// [`jcobs_decode`] saves no registers before it decodes a short frame.
+/// Decodes the first frame of the source. Returns the status and the length of the result, and stores the number of
+/// consumed bytes in `consumed`. [`jcobs_decode`] calls this function if [`decode_short`] returned `None` for the
+/// source. This code is a separate function, so that [`jcobs_decode`] saves no registers before it decodes a short
+/// frame.
 #[cold]
 #[inline(never)]
 fn decode_long(source: &[u8], message: &mut [u8], consumed: &mut usize) -> (u32, usize)

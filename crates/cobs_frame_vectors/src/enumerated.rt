@@ -1,5 +1,7 @@
 //! Decodes all lists of a few parts with each call for whole frames, encodes the same lists as messages, and compares
 //! the results with the plain reference.
+//!
+//! `rt` is the runtime: an assertion that fails aborts the test through it.
 use crate::slices::{CallResult, Decoder, VectorCall, check_decoder, vector};
 use cobs::{DestBufTooSmallError, FrameKind, frame_kind, try_encode};
 use cobs_vectors::bytes::{LONG_FRAME, LONG_MESSAGE, ONES, chosen, joined, repeated};
@@ -27,7 +29,7 @@ fn check_decode(rt: &impl Abort, alloc: Global, source: &[u8], room: usize) -> R
         is_whole,
         ..
     } = reading_of(alloc, piece)?;
-    let returned = if source.is_empty() {
+    let wanted = if source.is_empty() {
         CallResult::EmptyFrame
     } else if piece.is_empty() {
         CallResult::InvalidFrame(0)
@@ -46,7 +48,7 @@ fn check_decode(rt: &impl Abort, alloc: Global, source: &[u8], room: usize) -> R
         rt,
         alloc,
         (Decoder::Decode, source, &before),
-        (returned, &after),
+        (wanted, &after),
     )
 }
 
@@ -59,7 +61,7 @@ fn check_in_place(rt: &impl Abort, alloc: Global, source: &[u8]) -> Result<(), F
         is_whole,
         kept,
     } = reading_of(alloc, head)?;
-    let returned = if source.is_empty() {
+    let wanted = if source.is_empty() {
         CallResult::EmptyFrame
     } else if head.is_empty() || is_whole {
         CallResult::Sizes(output.len(), head.len())
@@ -75,7 +77,7 @@ fn check_in_place(rt: &impl Abort, alloc: Global, source: &[u8]) -> Result<(), F
         rt,
         alloc,
         (Decoder::InPlaceReport, &[], source),
-        (returned, &after),
+        (wanted, &after),
     )
 }
 
@@ -92,7 +94,7 @@ fn check_with_sentinel(
         is_whole,
         kept,
     } = reading_of(alloc, head)?;
-    let returned = if source.is_empty() {
+    let wanted = if source.is_empty() {
         CallResult::EmptyFrame
     } else if kept > room {
         CallResult::TooSmall
@@ -110,7 +112,7 @@ fn check_with_sentinel(
         rt,
         alloc,
         (Decoder::WithSentinel(0), source, &before),
-        (returned, &after),
+        (wanted, &after),
     )
 }
 

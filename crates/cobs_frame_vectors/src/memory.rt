@@ -5,6 +5,8 @@
 //! copy the second, and so on. If the call made this allocation, it must return an error, and the test ends with the
 //! words `out of memory`. Otherwise the call must succeed. The script stops at the first copy in which no test ends
 //! with these words.
+//!
+//! `rt` is the runtime: an assertion that fails aborts the test through it.
 use crate::messages::encode_few;
 use crate::slices::{CallResult, VectorCall, rejected, vector};
 use cobs::{
@@ -72,6 +74,7 @@ fn find_vector(
 
 /// Checks that `encode_frames` returns the right frames. Returns an error if memory runs out.
 fn find_frames(rt: &impl Abort, alloc: Global) -> Result<(), AllocError> {
+    // The allocations of the messages count as allocations of the call.
     let messages = [Vec::new(alloc), [0].to_vec(alloc)?, [1, 2].to_vec(alloc)?];
     let found = encode_few(rt, alloc, &messages)?;
     assert_eq!(rt; found.as_slice(), [1, 0, 1, 1, 0, 3, 1, 2, 0].as_slice());

@@ -1,4 +1,6 @@
 //! Lists of messages, and their frames one after the other.
+//!
+//! `rt` is the runtime: an assertion that fails aborts the test through it.
 use cobs::{encode_frames, max_encoding_length};
 use std::alloc::{AllocError, Global};
 use std::process::Abort;

@@ -1,4 +1,6 @@
 //! Runs calls over slices, and compares the result and the buffer after the call with the expected ones.
+//!
+//! `rt` is the runtime: an assertion that fails aborts the test through it.
 use cobs::{
     DecodeError, DecodeReport, DecodeVecError, decode, decode_in_place_report, decode_vec,
     decode_vec_with_sentinel, decode_with_sentinel, encode_vec, encode_vec_including_sentinels,

@@ -1,4 +1,6 @@
 //! Tests the state machine of a decoder in every state that a caller can build, with every byte.
+//!
+//! `rt` is the runtime: an assertion that fails aborts the test through it.
 use cobs::{DecodeError, DecodeResult, DecoderState};
 use std::process::Abort;
 use std::test::Fail;

@@ -1,4 +1,6 @@
 //! Tests a streaming encoder over a slice: the frame doesn't depend on where the message is cut.
+//!
+//! `rt` is the runtime: an assertion that fails aborts the test through it.
 use cobs::CobsEncoder;
 use cobs_vectors::bytes::{LONG_FRAME, LONG_MESSAGE, ONES, chosen, joined, repeated};
 use cobs_vectors::reference::frame_of;

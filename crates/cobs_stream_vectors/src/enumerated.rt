@@ -1,4 +1,6 @@
 //! Decodes all lists of a few parts with each streaming decoder, and compares the results with the plain reference.
+//!
+//! `rt` is the runtime: an assertion that fails aborts the test through it.
 use crate::streaming::{CallResult, Check, StreamingDecoder, check_all, fed};
 use cobs::{FrameOutcome, decode_stream};
 use cobs_vectors::bytes::{LONG_FRAME, ONES, chosen, joined};

@@ -1,4 +1,6 @@
 //! Tests of decoders after writes to the buffer inside a piece, and after resets inside a piece.
+//!
+//! `rt` is the runtime: an assertion that fails aborts the test through it.
 use crate::streaming::{CallResult, Check, StreamingDecoder, check_all, feed_all, overwrite};
 use cobs_vectors::bytes::{ONES, Parts, joined};
 use std::alloc::Global;

@@ -1,5 +1,7 @@
 //! Tests of `FrameReader` with readers that fail, that end or that never end, as a table. `conformance/reader.txt` has
 //! more cases.
+//!
+//! `rt` is the runtime: an assertion that fails aborts the test through it.
 use cobs::{
     CobsDecoder, CobsDecoderHeapless, CobsDecoderOwned, FrameDecoder, FrameReader, FrameSource,
     Next, ReadFault, Recorded,

@@ -1,4 +1,6 @@
 //! Tests of messages that are encoded and decoded again, in chunks.
+//!
+//! `rt` is the runtime: an assertion that fails aborts the test through it.
 use crate::encoders::encode_in_pieces;
 use crate::streaming::{CallResult, Check, StreamingDecoder, check_all, feed_all, pushed};
 use cobs::{CobsDecoder, CobsDecoderHeapless, CobsDecoderOwned, max_encoding_length};

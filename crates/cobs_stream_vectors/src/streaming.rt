@@ -1,4 +1,6 @@
 //! The three streaming decoders under one trait.
+//!
+//! `rt` is the runtime: an assertion that fails aborts the test through it.
 use cobs::{
     CobsDecoder, CobsDecoderHeapless, CobsDecoderOwned, DecodeError, DecodeReport, FrameDecoder,
     PushError, WriteBuffer,

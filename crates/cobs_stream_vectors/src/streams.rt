@@ -1,4 +1,6 @@
 //! Whole streams: several frames, cut and damaged.
+//!
+//! `rt` is the runtime: an assertion that fails aborts the test through it.
 use crate::streaming::{CallResult, Check, StreamingDecoder, check_all, pushed};
 use cobs::{FrameOutcome, decode_stream};
 use cobs_vectors::bytes::joined;

@@ -4,6 +4,8 @@
 //! mode writes its whole output, or returns `OutOfMemory` and writes nothing. The last test passes only if no growth
 //! fails. `tests/fail-alloc.sh` makes one growth fail in each run: the first growth in the first run, the second growth
 //! in the second run, and so on, until the last test passes.
+//!
+//! `rt` is the runtime: an assertion that fails aborts the test through it.
 use crate::fault::ToolFault;
 use crate::mode::Mode;
 use crate::modes::run_mode;

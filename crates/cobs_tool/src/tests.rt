@@ -1,5 +1,7 @@
 //! Tests of facts that no contract states: a call with enough memory succeeds; a failed read or write leads to the
 //! right fault; and the texts for known inputs are right.
+//!
+//! `rt` is the runtime: an assertion that fails aborts the test through it.
 
 use crate::fault::ToolFault;
 use crate::mode::{Mode, mode_of};
@@ -281,6 +283,7 @@ fn input_has_a_limit(rt: HostRuntime) -> Result<(), Fail> {
 #[test]
 fn nothing_is_read_after_the_first_byte_too_many(rt: HostRuntime) -> Result<(), Fail> {
     let alloc = rt.alloc();
+    // One byte more than the greatest length of the input, which is 1 MiB. The reader returns one byte per read.
     let zeros = vec![in alloc; 0u8; 1_048_577]?;
     let mut input = ByteReader {
         bytes: &zeros,

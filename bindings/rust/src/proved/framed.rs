@@ -48,6 +48,8 @@ pub enum Next {
 /// The reason why a call of `next_frame` failed. No byte is lost: a later call continues after the bytes that were
 /// read.
 ///
+/// This example calls again after too many reads, but gives up if a read failed.
+///
 /// ```
 /// use jcobs::{FrameDecoder, FrameReader, FrameSource, Next, ReadFault};
 ///

@@ -57,11 +57,12 @@ reports parsed result buffer m P h = grind arith
 
 -- DECODING INTO A BUFFER
 
+-- a piece is its own first piece, so the result of `decode` for a piece is the report of its outcome
 result_of_decode_alone : (f : List ℕ) (n : ℕ) → IsPiece f → result_of_decode f n ≡ report_result (len_through_piece f f) (outcome_result (outcome_of f n))
 result_of_decode_alone [] n piece = grind arith
 result_of_decode_alone (byte ∷ bytes) n piece = grind (arith, first_piece_alone)
 
--- `decode` reports the outcome of a piece
+-- `decode` of a piece reports the outcome of the piece
 decode-reported : (f buffer buffer' : List ℕ) (outcome : Outcome) → outcome_of f (length buffer) ≡ outcome → buffer' ≡ overwritten buffer (output f)
     → Reported outcome (outcome_result outcome) buffer'
 decode-reported f buffer buffer' (Message m) e is =
@@ -90,6 +91,8 @@ module _ (f old : List ℕ) (result : Result DecodeReport DecodeError) (new : Li
 
 -- DECODING FROM A SOURCE FOR ANY SENTINEL
 
+-- a piece has no zero, so it is its own head: for a piece, the result of `decode_with_sentinel` is the result for all its
+-- bytes
 result_of_sentinel_decode_alone : (f : List ℕ) (n : ℕ) → IsPiece f → result_of_sentinel_decode f n ≡ head_result_within f n
 result_of_sentinel_decode_alone [] n piece = grind arith
 result_of_sentinel_decode_alone (byte ∷ bytes) n piece = grind (arith, head_alone)

@@ -97,7 +97,8 @@ module _ {s : Start} {slice : List ℕ} {pos index next : ℕ} {P : Bool → Typ
   pub ends : pos ≡ length s.source → whole_end s ≡ next
   ends last = grind (arith, len-end)
 
--- after a step it is known that the last block isn't full
+-- The frame doesn't end in a full block (`ends_in_full`): the open block has a byte, or the block before it isn't full, or
+-- there is no block before it. An open block with 254 bytes isn't closed yet, so it doesn't count as full here.
 abbrev pub IsNotFull : Bool → Type 0
 IsNotFull full = full ≡ false
 

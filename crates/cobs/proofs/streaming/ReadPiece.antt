@@ -125,6 +125,6 @@ module _ {source old new : List ℕ} {at left written : ℕ} {full : Bool} (s : 
     pub read-full : left ≡ 0 → full ≡ true → IsRead source old (at + 1) new (eqb byte 255) (byte - 1) written
     read-full none is = grind (arith, read-more, ne_eqb, byte)
 
-    -- the code after another, with the zero before it
+    -- the code after a block that isn't full; the zero that joins the two blocks is written
     pub read-zero : left ≡ 0 → full ≡ false → written ≢ length new → IsRead source old (at + 1) (set new written 0) (eqb byte 255) (byte - 1) (written + 1)
     read-zero none is room = grind (arith, read-more, ne_eqb, byte, lt-ltb, length-set)

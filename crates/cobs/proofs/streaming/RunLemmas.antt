@@ -80,7 +80,8 @@ quiet_rest (x ∷ xs) buffer buffer' phase phase' nz f = grind (arith, ne_eqb, c
 pub rest_kept : (xs buffer buffer' : List ℕ) (inner inner' : UnbufferedDecoder) (k : ℕ) → HasNoZero xs → FeedsQuietly buffer (phase_of inner) xs buffer' (phase_of inner') → inner'.written ≤ k → drop k buffer' ≡ drop k buffer
 rest_kept xs buffer buffer' inner inner' k nz f past = grind (arith, quiet_rest)
 
--- so the bytes from index `at` on are as they were, after a decoder has read those from index `read` to `at`
+-- If a decoder in place has read the bytes from index `read` to `at`, and has written no further than `at`, the bytes from
+-- `at` on are as they were. No byte from `read` to `end` is zero.
 pub rest_read : (buffer buffer' : List ℕ) (inner inner' : UnbufferedDecoder) (read at end : ℕ) → read ≤ at → at ≤ end → HasNoZero (take (end - read) (drop read buffer))
     → FeedsQuietly buffer (phase_of inner) (take (at - read) (drop read buffer)) buffer' (phase_of inner') → inner'.written ≤ at → drop at buffer' ≡ drop (at - read) (drop read buffer)
 rest_read buffer buffer' inner inner' read at end order within nz f past =

@@ -168,6 +168,8 @@ impl<'a> CobsDecoder<'a> {
 impl FrameDecoder for CobsDecoder<'_> {
     ghost use Rattle.cobs.specs.Fields.Decoders.{borrowed_buffer, borrowed_phase, borrowed_slice};
 
+    // For the contracts of `FrameDecoder`: the bytes of this decoder's buffer, its phase, and the number of the slice that it borrows.
+    // A line that begins with `ghost` has no effect when the program runs.
     ghost bytes = { borrowed_buffer };
 
     ghost phase = { borrowed_phase };
@@ -332,6 +334,8 @@ impl CobsDecoderOwned {
 impl FrameDecoder for CobsDecoderOwned {
     ghost use Rattle.cobs.specs.Fields.Decoders.{owned_buffer, owned_phase};
 
+    // For the contracts of `FrameDecoder`: the bytes of this decoder's buffer, its phase, and a constant, because it borrows no slice.
+    // A line that begins with `ghost` has no effect when the program runs.
     ghost bytes = { owned_buffer };
 
     ghost phase = { owned_phase };

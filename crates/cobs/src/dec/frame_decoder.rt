@@ -137,7 +137,8 @@ pub trait FrameDecoder {
 
 /// A decoder that lends its buffer for writing.
 ///
-/// Writing replaces the bytes of the buffer. The decoder's state stays the same, and the buffer stays the same slice.
+/// Writing replaces the bytes of the buffer. The decoder's state doesn't change, and the decoder still uses the same
+/// slice as its buffer.
 /// So if the caller writes while a piece is open, the results for this piece stay the same (`PhaseAfter`), but the
 /// bytes of its message are unspecified. A piece is open from its first byte to the zero that ends it.
 ///

@@ -184,6 +184,8 @@ impl<const N: usize> Default for CobsDecoderHeapless<N> {
 impl<const N: usize> FrameDecoder for CobsDecoderHeapless<N> {
     ghost use Rattle.cobs.specs.Fields.Decoders.{heapless_buffer, heapless_phase};
 
+    // For the contracts of `FrameDecoder`: the bytes of this decoder's buffer, its phase, and a constant, because it borrows no slice.
+    // A line that begins with `ghost` has no effect when the program runs.
     ghost bytes = { heapless_buffer };
 
     ghost phase = { heapless_phase };

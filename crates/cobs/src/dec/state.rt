@@ -22,10 +22,10 @@ pub enum DecoderState {
     /// No nonzero byte has been fed since the last sentinel, or since the start.
     Idle,
 
-    /// Inside a block with a code from 1 to 254. This many bytes of the block are still missing.
+    /// Inside a block with a code from 1 to 254. The number says how many bytes of the block are still missing.
     Grab(u8),
 
-    /// Inside a full block, which has the code 255. This many bytes of the block are still missing.
+    /// Inside a full block, which has the code 255. The number says how many bytes of the block are still missing.
     GrabChain(u8),
 }
 

@@ -86,8 +86,9 @@ pub fn law_16()
 /// A decoder of your own, byte by byte.
 ///
 /// The file `specs/Step.antt` defines a step for every phase of a decoder and every byte. This step meets the contract
-/// of `feed` (clause `step`). As long as the output of the piece fits the buffer, the step has the same effect on a
-/// decoder's state as on a [`DecoderState`](crate::DecoderState) (clause `by_table`).
+/// of `feed` (clause `step`). As long as the output of the piece fits the buffer, this step changes the state of a
+/// decoder in the same way as `feed` of the same byte changes a [`DecoderState`](crate::DecoderState) (clause
+/// `by_table`).
 ///
 /// Consider a loop that feeds bytes one by one, and stops after the zero that ends the first piece, or after the last
 /// byte if no piece ends. This loop has the same result as one call of `feed_piece`.
@@ -122,7 +123,8 @@ pub fn law_17()
 /// the zero after the frame returns the length of the message. If a call of `feed_piece` passes a piece, a zero and any
 /// further bytes to an idle decoder, the call stops after that zero. If the piece is the frame, the call returns the
 /// length of the message. A `push` of the frame and a zero to an idle decoder returns the length of the message too.
-/// After each of these calls the buffer begins with the message. No piece that isn't a frame is decoded as a message.
+/// After each of these calls the buffer begins with the message. If a piece isn't a frame, none of these calls returns
+/// a message for it.
 ///
 /// So each of these calls decodes the frames that [`encode`](crate::encode) writes.
 ///

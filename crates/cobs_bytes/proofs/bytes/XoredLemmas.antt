@@ -48,6 +48,7 @@ module _ (source dest : List ℕ) (s n : ℕ) (long : n ≤ length source) (shor
   coded-long : length coded ≡ length source
   coded-long = grind (arith, length-map)
 
+  -- at + n is the length of the source, so the second part reaches to its end
   whole : take (at + n) coded ≡ coded
   whole = grind (arith, take_all, at, coded, coded-long)
 

@@ -11,6 +11,7 @@ module _ (source : List ℕ) (at end : ℕ) (after : at ≤ end) (none : HasNoZe
   abbrev rest : List ℕ
   rest = drop at source
 
+  -- the byte that the loop tests, at `end` of the source, as a byte of `rest`
   here : get_or rest (end - at) 0 ≡ get_or source end 0
   here = grind (arith, get_or-drop, get_or)
 
