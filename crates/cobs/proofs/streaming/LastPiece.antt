@@ -1,4 +1,7 @@
--- The last piece of a stream, and outputs that grow with it: by `StreamLemmas` and `output-push`.
+-- The last piece of a stream, and its output: lemmas for the fields `holds` and `untouched` of `PushesBytes` and
+-- `TakesPiece`. As long as no piece has ended, the last piece is the unended bytes (`last_piece-unended`); after a zero
+-- it is the piece that the zero ends (`last_piece-zero`). Bytes that are appended to a piece only append bytes to its
+-- output (`output-begins`). By `StreamLemmas` and `output-push`.
 use Rattle.std.proofs.Common.{◌≡◌, ◌≢◌, ℕ, ◌<◌, ◌≤◌, List, [], ◌∷◌, ◌++◌, length, take, drop, filter, refl, ap, ◌∙◌, arith, append_assoc, length-append, take_at}
 use Rattle.std.proofs.lemmas.List.{append-nil, take-append-drop}
 use Rattle.std.proofs.lemmas.List.Elements.{filter-append}
@@ -12,7 +15,7 @@ use Rattle.cobs.proofs.format.StreamLemmas.{fed-nonzero, length-stretches, ended
 
 -- THE LAST PIECE OF A STREAM
 
--- some lists are all but the last, and the last
+-- a nonempty list of lists consists of all lists but the last one, and the last one
 all_but_last : (xs : List (List ℕ)) → 0 < length xs → xs ≡ but_last xs ++ last_of xs ∷ []
 unfolding but_last
 all_but_last [] h = grind arith
@@ -24,29 +27,30 @@ pieces : (t : List ℕ) → filter is_nonempty (stretches t) ≡ ended_pieces t 
 unfolding ended_pieces unended
 pieces t = ap (filter is_nonempty) (all_but_last (stretches t) (length-stretches t)) ∙ filter-append is_nonempty (but_last (stretches t)) (last_of (stretches t) ∷ [])
 
--- if no piece has ended, the last one is the unended bytes
+-- if no piece has ended in t, the last piece of t is its unended bytes
 pub last_piece-unended : (t : List ℕ) → ended_pieces t ≡ [] → last_piece t ≡ unended t
 unfolding last_piece
 last_piece-unended t none = grind (arith, pieces, filter)
 
--- the pieces that have ended after one more byte
+-- the pieces that have ended after one more zero: those of t, and the unended bytes of t if there are any
 ended_pieces-zero : (t : List ℕ) → ended_pieces (t ++ 0 ∷ []) ≡ ended_pieces t ++ filter is_nonempty (unended t ∷ [])
 unfolding ended_pieces but_last
 ended_pieces-zero t = grind (arith, ended_pieces-append, stretches-piece, unended_no_zero)
 
+-- one more nonzero byte ends no piece
 pub ended_pieces-nonzero : (t : List ℕ) (b : ℕ) → b ≢ 0 → ended_pieces (t ++ b ∷ []) ≡ ended_pieces t
 ended_pieces-nonzero t b h =
     let none = rw (unended-push t b, fed-nonzero (unended t) b h) at (unended_no_zero (t ++ b ∷ [])) in
     grind (arith, ended_pieces-append, ended_pieces-no_zero, append-nil)
 
--- where none had ended before a zero, the last piece is the one that it ends
+-- if no piece has ended in t, the last piece of t and a zero is the piece that this zero ends
 pub last_piece-zero : (t : List ℕ) → ended_pieces t ≡ [] → last_piece (t ++ 0 ∷ []) ≡ unended t
 unfolding last_piece
 last_piece-zero t none = grind (arith, pieces, unended-zero, append-nil, ended_pieces-zero)
 
 -- WHAT IS WRITTEN OF IT
 
--- an output grows at its end, with each byte of its piece
+-- if bytes are appended to a piece, its output is the output of the piece before, and then more bytes
 output-end : (p tail : List ℕ) → (more : List ℕ) × (output (p ++ tail) ≡ output p ++ more)
 unfolding output parts parts_after
 output-end [] tail = (output tail, refl)
@@ -56,17 +60,20 @@ output-end (c ∷ p) (x ∷ tail) =
     let rest = output-end (c ∷ p ++ x ∷ []) tail in
     (one.0 ++ rest.0, cc (append_assoc (c ∷ p) (x ∷ []) tail, append_assoc (output (c ∷ p)) one.0 rest.0))
 
+-- bytes that are appended to a piece don't make its output shorter
 pub output-grows : (p tail : List ℕ) → length (output p) ≤ length (output (p ++ tail))
 output-grows p tail = let e = output-end p tail in omega (arith, ap length e.1, length-append (output p) e.0)
 
+-- one byte that is appended to a piece doesn't make its output shorter
 pub output-longer : (p : List ℕ) (b : ℕ) → length (output p) ≤ length (output (p ++ b ∷ []))
 output-longer p b = output-grows p (b ∷ [])
 
--- so the output so far is the front of it
+-- the output of a piece begins with the output of its front p
 pub output-begins : (p tail : List ℕ) → take (length (output p)) (output (p ++ tail)) ≡ output p
 output-begins p tail = let e = output-end p tail in rw e.1 (grind (arith, take_at))
 
--- a buffer that begins with an output, as far as it fits, and is otherwise as before
+-- `buffer'` is `overwritten buffer written` if it is as long as `buffer`, begins with `written` (or as much of it as
+-- fits), and has the other bytes of `buffer`
 pub overwritten-is : (written buffer buffer' : List ℕ) → length buffer' ≡ length buffer → take (length written) buffer' ≡ take (length buffer') written → drop (length written) buffer' ≡ drop (length written) buffer
     → buffer' ≡ overwritten buffer written
 overwritten-is written buffer buffer' len begins rest = grind (arith, take-append-drop, len)

@@ -1,5 +1,5 @@
--- Zeros outside a piece are fed quietly (`quiet-zeros`), and a piece is open after bytes that aren't zeros
--- (`open-after`), by induction on the bytes.
+-- Lemmas for `take_to_end`: zeros outside a piece are fed quietly (`quiet-zeros`), and a piece is open after bytes that
+-- aren't zeros (`open-after`). By induction on the bytes.
 use Rattle.std.proofs.Common.{◌≡◌, ◌≢◌, ℕ, zero, suc, ◌<◌, ◌≤◌, true, false, List, [], ◌∷◌, length, take, refl, arith}
 use Rattle.std.proofs.lemmas.Bool.{ne_eqb, cases_Bool}
 use Rattle.std.proofs.lemmas.List.Elements.{All-head, All-tail}
@@ -24,6 +24,7 @@ opened n (Within full (suc left) count) byte nz = grind (arith, ne_eqb, cases_Bo
 opened n (Within true zero count) byte nz = grind (arith, ne_eqb)
 opened n (Within false zero count) byte nz = grind (arith, ne_eqb, cases_Bool)
 
+-- if a piece is open, it is still open after nonzero bytes that are fed quietly
 stays-open : (bytes buffer buffer' : List ℕ) (phase phase' : Phase) → HasNoZero bytes → FeedsQuietly buffer phase bytes buffer' phase' → phase ≢ Idle → phase' ≢ Idle
 stays-open [] buffer buffer' phase phase' none f begun = grind arith
 stays-open (byte ∷ bytes) buffer buffer' phase phase' none f begun =

@@ -1,5 +1,8 @@
--- The first piece of a source, read byte by byte into a buffer: `IsRead` says how far. A byte that has room keeps it
--- (`read-byte`, `read-full`, `read-zero`); one without room, a zero or the source's end is the last (`Ended`).
+-- Lemmas for `decode_piece`, which reads the first piece of a source byte by byte into a buffer. `IsRead` says how far
+-- the source is read. It holds after the first code (`read-first`), and each further byte for which there is room
+-- preserves it (`read-byte`, `read-full`, `read-zero`). At a zero or the end of the source (`ended`), or at a byte
+-- without room (`over`), the result and the buffer are those that the contract states (`Ended`). By `FrontFed`: the
+-- bytes of the piece that are read have been fed to the machine of `Step`.
 use Rattle.std.proofs.Common.{◌≡◌, ◌≢◌, ◌∙◌, ◌+◌, ◌-◌, ◌<◌, ◌≤◌, ℕ, zero, suc, Bool, true, false, eqb, List, [], ◌∷◌, length, take, drop, get_or, set, min, Option, Some, None, refl, ap, arith, length-drop, length-set}
 use Rattle.std.proofs.lemmas.Bool.{le-ltb, lt-ltb, ne_eqb}
 use Rattle.std.proofs.lemmas.List.{drop-drop, drop_more, get_or-drop}
@@ -20,7 +23,8 @@ use Rattle.cobs.proofs.streaming.FrontFed.{FrontFed, over-count, over-long, over
 use Rattle.cobs.proofs.streaming.QuietLemmas.{quiet-within, quiet-written}
 use Rattle.cobs.proofs.streaming.SpanLemmas.{FeedsQuietly-more}
 
--- the bytes before `at` are read: the decoder is then in a block, full or not, of which `left` bytes are missing
+-- The bytes before index `at` are read: the leading zeros, and the first n bytes of the piece. The decoder is then in a
+-- block, full or not, of which `left` bytes are missing; `written` bytes of output are in the buffer.
 pub record IsRead (source old : List ℕ) (at : ℕ) (new : List ℕ) (full : Bool) (left written : ℕ) : Type 0 where
   pub n : ℕ
   pub place : at ≡ leading_zeros source + n
@@ -28,11 +32,11 @@ pub record IsRead (source old : List ℕ) (at : ℕ) (new : List ℕ) (full : Bo
   pub room : written ≤ length new
   pub front : FrontFed (rest source) old new (Within full left written) n
 
--- the result and the buffer are those of the source's first piece
+-- the result and the buffer are those of the source's first piece, as the contract of `decode_piece` states
 abbrev pub Ended : List ℕ → List ℕ → List ℕ → Option (PieceEnd × ℕ) → Type 0
 Ended source old new result = record { answer : result ≡ end_of_first source (length old); buffer : new ≡ overwritten old (first_output source) }
 
--- one byte, fed
+-- one nonzero byte is fed quietly if the next phase is a `Within`
 one : (dest : List ℕ) (phase : Phase) {dest' : List ℕ} {b : ℕ} {full : Bool} {left count : ℕ} → b ≢ 0 → dest' ≡ next_buffer dest phase b → Within full left count ≡ next_phase (length dest) phase b
     → FeedsQuietly dest phase (b ∷ []) dest' (Within full left count)
 one dest phase {dest'} {b} other is next = grind arith
@@ -41,53 +45,61 @@ one dest phase {dest'} {b} other is next = grind arith
 pub first-code : (source : List ℕ) (start : ℕ) → start ≡ leading_zeros source → start < length source → get_or source start 0 ≢ 0
 first-code source start is more e = grind (arith, leading_zeros-stop, get_or-drop, get_or)
 
--- the first code is read
+-- after the first code is read, `IsRead` holds; no output is written yet
 pub read-first : (source old : List ℕ) (start : ℕ) → start ≡ leading_zeros source → start < length source → IsRead source old (start + 1) old (eqb (get_or source start 0) 255) (get_or source start 0 - 1) 0
 read-first source old start is more = grind (arith, leading_zeros-stop, head_some, ne_eqb, drop_more, first-code)
 
--- a source that has only zeros
+-- a source that has only zeros has no piece: the result is `None`, and the buffer is as it was
 pub no-piece : (source old : List ℕ) (start : ℕ) → start ≡ leading_zeros source → start ≡ length source → Ended source old old None
 no-piece source old start is all = grind (arith, first_piece_none, length-drop, overwritten-none)
 
--- a byte of an open block, in the machine of `Step`
+-- in the machine of `Step`, a nonzero byte of an open block is written after the output, and one fewer byte of the
+-- block is missing
 open-byte : (new : List ℕ) (full : Bool) (left written byte : ℕ) → byte ≢ 0 → left ≢ 0
     → (next_buffer new (Within full left written) byte ≡ set new written byte)
     × (next_phase (length new) (Within full left written) byte ≡ grows (length new) full (left - 1) written)
 open-byte new full zero written byte other some = absurd (some refl)
 open-byte new full (suc left) written byte other some = grind arith
 
+-- the bytes before index `at` are read
 module _ {source old new : List ℕ} {at left written : ℕ} {full : Bool} (s : IsRead source old at new full left written) where
+  -- the first piece of the source
   abbrev piece : List ℕ
   piece = head (rest source)
 
-  -- the next byte of the source
+  -- the next byte of the source, as a byte of the source without its leading zeros
   here : get_or (rest source) s.n 0 ≡ get_or source at 0
   here = grind (arith, get_or-drop, get_or)
 
-  -- the result, from how the piece ends and how long it is
+  -- the result `Some (end, count)` and the buffer are right, if `end` means the outcome of the piece, `count` is the
+  -- number of consumed bytes, and the output of the piece is written
   ended-by : (end : PieceEnd) (count : ℕ) → end_with (outcome_of piece (length old)) ≡ end → count ≡ min (length source) (leading_zeros source + length piece + 1)
       → new ≡ overwritten old (output piece) → Ended source old new (Some (end, count))
   ended-by end count is counted written-is = grind (arith, first_piece_found, length-head, rest)
 
-  -- a zero, or the end of the source
+  -- the next byte is a zero, or the source ends: the result is a message if no byte of the block is missing, otherwise
+  -- a broken piece
   pub ended : (at < length source → get_or source at 0 ≡ 0) → {result : Option (PieceEnd × ℕ)} {count : ℕ} → count ≡ min (length source) (at + 1)
       → (left ≡ 0 → result ≡ Some (ends.Message written, count)) → (left ≢ 0 → result ≡ Some (ends.Broken written, count)) → Ended source old new result
   ended stop {result} {count} counted if-whole if-broken =
+      -- so the bytes that are read are the whole piece, and `written` and `left` belong to it (`counts`)
       let at-stop = λ (more : s.n < length (rest source)). here ∙ stop (omega (arith, length-drop (leading_zeros source) source)) in
       let w = whole s.front at-stop in
       let long = whole-count s.front at-stop in
       let counts = quiet-within w in
       grind (arith, ended-by, piece, outcome_of_none_missing, outcome_of_some_missing, quiet-written)
 
-  -- another byte
+  -- the next byte isn't a zero
   module _ (more : at < length source) (other : get_or source at 0 ≢ 0) where
     abbrev byte : ℕ
     byte = get_or source at 0
 
-    -- one that has room
+    -- the buffer has room for the output of the byte: `IsRead` holds after it, for the next buffer and phase of the
+    -- machine
     read-more : {new' : List ℕ} {full' : Bool} {left' written' : ℕ} → new' ≡ next_buffer new (Within full left written) byte
         → Within full' left' written' ≡ next_phase (length new) (Within full left written) byte → written' ≤ length new' → IsRead source old (at + 1) new' full' left' written'
     read-more buffer next room =
+        -- this byte is the next one of the source without its leading zeros
         let last : take 1 (drop s.n (rest source)) ≡ byte ∷ [] = grind (arith, drop-drop, drop_more) in
         record {
           n = s.n + 1;
@@ -101,14 +113,16 @@ module _ {source old new : List ℕ} {at left written : ℕ} {full : Bool} (s : 
           };
         }
 
-    -- the phase is `Overlong` after a byte that adds to a full buffer
+    -- the byte adds a byte to the output, but the buffer is full, so the next phase is `Overlong`
     no-room : (left ≡ 0 → full ≡ false) → length new ≤ written → next_phase (length new) (Within full left written) byte ≡ Overlong
     no-room adds past = grind (arith, open-byte, ne_eqb, le-ltb)
 
-    -- one that adds a byte to the output, of the block or the zero before a code, for which there is no room
+    -- The byte adds a byte to the output: the byte itself, or the zero before a code. If the buffer is full, the result
+    -- is `TooLong`, with the number of bytes up to the end of the piece.
     pub over : (left ≡ 0 → full ≡ false) → length new ≤ written → {count : ℕ} → count ≡ min (length source) (at + 1 + length (head (drop (at + 1) source)) + 1)
         → Ended source old new (Some (ends.TooLong, count))
     over adds past {count} counted =
+        -- these facts are `no-room`, and the facts about this byte, in the words of `FrontFed`
         let inside : s.n < length (rest source) = omega (arith, s.place, length-drop (leading_zeros source) source) in
         let not-zero : get_or (rest source) s.n 0 ≢ 0 = rw here other in
         let too-long : next_phase (length new) (Within full left written) (get_or (rest source) s.n 0) ≡ Overlong = rw here (no-room adds past) in
@@ -117,14 +131,14 @@ module _ {source old new : List ℕ} {at left written : ℕ} {full : Bool} (s : 
         ended-by ends.TooLong count (ap end_with (outcome_of_long piece (length old) (over-long s.front inside not-zero too-long)))
         (omega (arith, counted, long, ap (λ (l : List ℕ). length (head l)) behind, s.place)) (over-written s.front inside not-zero too-long)
 
-    -- one of the block's bytes
+    -- the byte belongs to the open block, and there is room for it
     pub read-byte : left ≢ 0 → written ≢ length new → IsRead source old (at + 1) (set new written byte) full (left - 1) (written + 1)
     read-byte some room = grind (arith, read-more, open-byte, byte, lt-ltb, length-set)
 
-    -- the code after a full block
+    -- the byte is the code after a full block, which adds nothing to the output
     pub read-full : left ≡ 0 → full ≡ true → IsRead source old (at + 1) new (eqb byte 255) (byte - 1) written
     read-full none is = grind (arith, read-more, ne_eqb, byte)
 
-    -- the code after a block that isn't full; the zero that joins the two blocks is written
+    -- the byte is the code after a block that isn't full; the zero that joins the two blocks is written
     pub read-zero : left ≡ 0 → full ≡ false → written ≢ length new → IsRead source old (at + 1) (set new written 0) (eqb byte 255) (byte - 1) (written + 1)
     read-zero none is room = grind (arith, read-more, ne_eqb, byte, lt-ltb, length-set)

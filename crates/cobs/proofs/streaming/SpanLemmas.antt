@@ -1,5 +1,7 @@
--- Bytes after an open block in which no full block ends, fed as a whole: they are written with a zero over each code
--- (`walked`). By `fed_walked`, for the bytes of one span (`IsSpan`).
+-- Lemmas for the functions of `dec/run.rt`, which take up to 253 bytes at once: they write the bytes after the output,
+-- with a zero over each code (`walked`). `IsSpan` says which bytes may be taken so, and `open_fed` says that this has
+-- the effect of feeding them; it is by `fed_walked`. From it follow `block_fed` for bytes of the open block, `row_fed`
+-- for a row of codes 01, and `kept` and `marked` for bytes that were copied or moved after the output.
 use Rattle.std.proofs.Common.{◌≡◌, ◌≢◌, ℕ, zero, suc, ◌+◌, ◌-◌, ◌<◌, ◌≤◌, eqb, List, [], ◌∷◌, ◌++◌, length, take, drop, refl, sym, ◌∙◌, arith, length-take-le, length-drop, replicate, take-append-drop, take_all}
 use Rattle.std.proofs.lemmas.List.{append-nil, drop_all, drop-drop, length-replicate, take_rest, take-append-drop}
 use Rattle.std.proofs.Math.Seq.{drop-append_seam, take-add, take-append_seam}
@@ -18,57 +20,66 @@ use Rattle.cobs.proofs.streaming.RunLemmas.{over, phase_with-begun}
 use Rattle.cobs.proofs.streaming.WalkLemmas.{fed_walked, length-walked, walked-past, walked-any, IsWalked}
 use Rattle.cobs_bytes.proofs.bytes.ListLemmas.{ones-nonzero}
 
--- the bytes are fed in two parts
+-- if the bytes xs are fed quietly, and then the bytes ys, then xs ++ ys are fed quietly
 pub FeedsQuietly-append : (xs ys buffer buffer' buffer'' : List ℕ) (phase phase' phase'' : Phase)
     → FeedsQuietly buffer phase xs buffer' phase' → FeedsQuietly buffer' phase' ys buffer'' phase'' → FeedsQuietly buffer phase (xs ++ ys) buffer'' phase''
 FeedsQuietly-append [] ys buffer buffer' buffer'' phase phase' phase'' f g = grind arith
 FeedsQuietly-append (x ∷ xs) ys buffer buffer' buffer'' phase phase' phase'' f g =
     (f.0, FeedsQuietly-append xs ys (next_buffer buffer phase x) buffer' buffer'' (next_phase (length buffer) phase x) phase' phase'' f.1 g)
 
--- the bytes after those that were fed
+-- if the first `run` bytes are fed quietly, and then the next `more` bytes, then the first run + more bytes are fed
+-- quietly
 pub FeedsQuietly-more : (bytes buffer buffer' buffer'' : List ℕ) (phase phase' phase'' : Phase) (run more : ℕ) → FeedsQuietly buffer phase (take run bytes) buffer' phase'
     → FeedsQuietly buffer' phase' (take more (drop run bytes)) buffer'' phase'' → FeedsQuietly buffer phase (take (run + more) bytes) buffer'' phase''
 FeedsQuietly-more bytes buffer buffer' buffer'' phase phase' phase'' run more f g = grind (arith, take-add, FeedsQuietly-append)
 
--- n bytes that were written to the front of a part
+-- `ys` replaces the bytes of `dest` from index `at` on. If `ys` is these bytes with xs written over the first n of
+-- them, then `dest` now has xs at index `at`, and its other bytes are as they were.
 pub part_put : (at n : ℕ) (dest ys xs : List ℕ) → ys ≡ xs ++ drop n (take (length dest - at) (drop at dest)) → put_mid at (length dest - at) dest ys ≡ take at dest ++ (xs ++ drop (at + n) dest)
 part_put at n dest ys xs is = grind (arith, drop_all, length-drop, take_rest, drop-drop, append-nil)
 
--- the same of a part that was copied, each byte XORed
+-- `part_put` for a copy: xs are the n bytes of `part`, each XORed with s
 pub copied_put : (at n s : ℕ) (dest ys part xs : List ℕ) → ys ≡ xor_each s part ++ drop (length part) (take (length dest - at) (drop at dest)) → xor_each s part ≡ xs → length part ≡ n
     → put_mid at (length dest - at) dest ys ≡ take at dest ++ (xs ++ drop (at + n) dest)
 copied_put at n s dest ys part xs is same long = grind (arith, part_put)
 
+-- xs is written over the buffer from index `base` on
 module _ (base : ℕ) (buffer xs : List ℕ) (room : base + length xs ≤ length buffer) where
+  -- the bytes of this buffer from index `base` on
   behind : drop base (over base buffer xs) ≡ xs ++ drop (base + length xs) buffer
   behind = let l = length-take-le base buffer (omega arith) in grind (arith, drop-append_seam)
 
-  -- written over by as many bytes
+  -- if ys are as many bytes as xs, and replace xs, the result is ys written over the buffer
   over-over : (ys : List ℕ) → length ys ≡ length xs → put_mid base (base + length xs - base) (over base buffer xs) ys ≡ over base buffer ys
   over-over ys same = grind (arith, common_steps, over, length-take-le, take-append_seam, behind, drop-append_seam)
 
--- what was copied is there
+-- if xs was written over `before` from index `at` on, the `len` bytes from index `at` on are xs
 pub copied-there : (at len : ℕ) (before dest xs : List ℕ) → at + len ≤ length before → length xs ≡ len → dest ≡ take at before ++ (xs ++ drop (at + len) before) → take len (drop at dest) ≡ xs
 copied-there at len before dest xs room long is = grind (arith, over, behind, take-append_seam)
 
--- a code of the block whose `joint` is this: a full one, or another
+-- a code that agrees with the number `joint` of a decoder: 255 if `joint` is 0, that is, if the open block is full,
+-- otherwise 1, which stands for any smaller code
 abbrev pub code_by : ℕ → ℕ
 code_by zero = 255
 code_by (suc joint) = 1
 
+-- `joint` is 0 exactly if this code is 255
 pub code_by-full : (joint : ℕ) → eqb joint 0 ≡ eqb (code_by joint) 255
 code_by-full zero = refl
 code_by-full (suc joint) = grind arith
 
+-- if this code is 255, `joint` is 0
 full_by : (joint : ℕ) → code_by joint ≡ 255 → joint ≡ 0
 full_by zero is = refl
 full_by (suc joint) is = grind arith
 
--- the decoder after that many bytes, with these numbers of its open block
+-- the decoder after `len` more bytes of output, with these numbers for its open block
 abbrev moved_on : UnbufferedDecoder → ℕ → ℕ → ℕ → UnbufferedDecoder
 moved_on inner len left joint = record { written = inner.written + len; missing = left; joint = joint; too_long = inner.too_long }
 
--- bytes that a decoder takes at once after its output: none of them is after a full block
+-- The bytes xs are a span for this decoder: `len` bytes that it may take at once after its output. No code among them
+-- follows a full block: a full open block has bytes enough for all of them (`full`), and they are too few for another
+-- full block (`few`).
 record IsSpan (inner : UnbufferedDecoder) (len : ℕ) (before xs : List ℕ) : Type 0 where
   room : inner.written + len ≤ length before
   long : length xs ≡ len
@@ -78,24 +89,27 @@ record IsSpan (inner : UnbufferedDecoder) (len : ℕ) (before xs : List ℕ) : T
   some : 0 < len
   few : inner.missing < len → len < 254
 
--- the phase, by the code of the open block in place of `joint`
+-- the phase of the decoder, with `code_by` in place of its number `joint`
 block-phase : (inner : UnbufferedDecoder) → inner.too_long ≡ 0 → (inner.joint ≡ 0 → 0 < inner.missing) → phase_of inner ≡ Within (eqb (code_by inner.joint) 255) inner.missing inner.written
 block-phase inner going full = grind (arith, phase_with-begun, ne_eqb, code_by-full)
 
--- they are written with a zero over each code; `joint` is set for the last code
+-- `ys` are the bytes of the span with a zero over each code, `code` is the last code, and `joint` is set for this code
 module _ {inner : UnbufferedDecoder} {len : ℕ} {before xs : List ℕ} (s : IsSpan inner len before xs) (joint : ℕ) {ys : List ℕ} {code left : ℕ}
     (w : IsWalked ys code left (code_by inner.joint) inner.missing xs) (joint-is : eqb joint 0 ≡ eqb code 255) where
+  -- to write `ys` after the output has the effect of feeding the bytes of the span
   open_fed : FeedsQuietly before (phase_of inner) xs (over inner.written before ys) (phase_of (moved_on inner len left joint))
   open_fed =
       let fed = fed_walked xs before (code_by inner.joint) inner.missing inner.written s.nonzero
       (λ e. omega (arith, s.long, s.full (full_by inner.joint e))) (λ h. omega (arith, s.long, s.few (omega arith))) (omega (arith, s.long, s.room)) in
       grind (arith, block-phase, phase_with-begun)
 
-  -- written over a copy of them
+  -- if the bytes of the span were copied after the output, and `ys` replaces them, the buffer is as if only `ys` was
+  -- written
   written_over : (dest : List ℕ) → dest ≡ over inner.written before xs → put_mid inner.written (inner.written + len - inner.written) dest ys ≡ over inner.written before ys
   written_over dest is = let room = s.room in let long = s.long in grind (arith, over-over, length-walked, code_by)
 
--- bytes of the open block
+-- If the next `run` bytes belong to the open block, and are written after the output as they are, this has the effect
+-- of feeding them. As many fewer bytes of the block are then missing.
 pub block_fed : (inner : UnbufferedDecoder) (run : ℕ) (dest bytes new : List ℕ) → inner.too_long ≡ 0 → run ≤ inner.missing → inner.written + run ≤ length dest → run ≤ length bytes
     → HasNoZero (take run bytes) → new ≡ take inner.written dest ++ (take run bytes ++ drop (inner.written + run) dest)
     → FeedsQuietly dest (phase_of inner) (take run bytes) new (phase_of (moved_on inner run (inner.missing - run) inner.joint))
@@ -104,16 +118,18 @@ block_fed inner (suc run) dest bytes new going most room within nz is =
     let xs : List ℕ = take (suc run) bytes in
     let long : length xs ≡ suc run = length-take-le (suc run) bytes within in
     let s : IsSpan inner (suc run) dest xs = record { room = room; long = long; going = going; full = λ _. most; nonzero = nz; some = omega arith; few = λ less. absurd (omega arith) } in
+    -- no code is among these bytes
     let past = walked-past (code_by inner.joint) inner.missing xs (omega (arith, long)) in
     let fed = open_fed s inner.joint (sym past) (code_by-full inner.joint) in
     grind arith
 
--- read from code to code, n codes 1 become n zeros
+-- `walked` of n codes 1, after a block 1: each of the codes becomes a zero
 row_ones : (n : ℕ) → walked 1 0 (replicate n 1) ≡ (replicate n 0, 1, 0)
 row_ones zero = refl
 row_ones (suc n) = grind (arith, row_ones n)
 
--- a row of n blocks without bytes
+-- If the next n bytes are codes 1, and the block before them is whole and not full, n zeros are written after the
+-- output. This has the effect of feeding the codes.
 pub row_fed : (n : ℕ) (inner : UnbufferedDecoder) (dest bytes new : List ℕ) → 0 < n → n < 254 → inner.too_long ≡ 0 → inner.missing ≡ 0 → inner.joint ≢ 0 → inner.written + n ≤ length dest → take n bytes ≡ replicate n 1
     → new ≡ take inner.written dest ++ (replicate n 0 ++ drop (inner.written + n) dest)
     → FeedsQuietly dest (phase_of inner) (take n bytes) new (phase_of (moved_on inner n inner.missing inner.joint))
@@ -122,46 +138,52 @@ row_fed n inner dest bytes new some few going none due room ones is =
     let long : length (replicate {A = ℕ} n 1) ≡ n = length-replicate {A = ℕ} n 1 in
     let s : IsSpan inner n dest (replicate n 1)
     = record { room = room; long = long; going = going; full = λ e. absurd (due e); nonzero = ones-nonzero n; some = some; few = λ _. few } in
+    -- the block before the codes may have any code that isn't 255
     let same = walked-any 1 code 0 (replicate n 1) (omega arith) in
     let fed = open_fed s inner.joint {ys = replicate n 0} {code = 1} {left = 0} (grind (arith, row_ones)) (grind arith) in
     grind (arith, length-replicate)
 
--- what `joint_after` returns for a code
+-- the number that `joint_after` returns for a code is 0 exactly if the code is 255
 pub joint-is : (code joint : ℕ) → (code ≡ 255 → joint ≡ 0) → (code ≢ 255 → joint ≡ 1) → eqb joint 0 ≡ eqb code 255
 joint-is code joint full other = grind (arith, ne_eqb)
 
--- bytes that were copied or moved to the end of the output
+-- the `len` bytes xs were copied or moved to the end of the output: the buffer was `before`, and is now `dest`
 module _ (inner : UnbufferedDecoder) (len : ℕ) (dest : List ℕ) (nz : HasNoZero (take len (drop inner.written dest))) (before xs : List ℕ) (room : inner.written + len ≤ length before) (long : length xs ≡ len)
     (is : dest ≡ take inner.written before ++ (xs ++ drop (inner.written + len) before)) (going : inner.too_long ≡ 0) (full : inner.joint ≡ 0 → len ≤ inner.missing) (few : (0 < len) × (len < 254)) where
-  -- the bytes at the end of the output, and the code of the open block
+  -- the bytes at the end of the output, which are xs (`part-is`)
   abbrev part : List ℕ
   part = take (inner.written + len - inner.written) (drop inner.written dest)
 
+  -- a code that agrees with the open block
   abbrev code : ℕ
   code = code_by inner.joint
 
   part-is : part ≡ xs
   part-is = grind (arith, copied-there)
 
+  -- xs has no zero
   nonzero : HasNoZero xs
   nonzero = grind (arith, copied-there)
 
-  -- with a code after it, a code of one more than its missing bytes is as good as its own
+  -- If there is a code among the bytes, the walk over them doesn't depend on the code before them. So it may begin from
+  -- the code `inner.missing + 1`, as the functions of `dec/run.rt` do.
   own : inner.missing < len → walked (inner.missing + 1) (inner.missing + 1 - 1) part ≡ walked code inner.missing xs
   own more =
       let same : inner.missing + 1 - 1 ≡ inner.missing = omega arith in
       rw (part-is, same) (walked-any (inner.missing + 1) code inner.missing xs (omega arith))
 
+  -- `dest`, in terms of the length of xs
   dest-is : dest ≡ take inner.written before ++ (xs ++ drop (inner.written + length xs) before)
   dest-is = grind arith
 
-  -- no code is among them: they stay as they are
+  -- if no code is among the bytes, they stay as they are, and this has the effect of feeding them
   pub kept : len ≤ inner.missing → FeedsQuietly before (phase_of inner) xs dest (phase_of (moved_on inner len (inner.missing - len) inner.joint))
   kept most =
       let all : take len xs ≡ xs = take_all len xs (omega arith) in
       rw all at (block_fed inner len before xs dest going most room (omega (arith, long)) (rw all nonzero) (rw all is))
 
-  -- a code is among them: a zero was written over each code
+  -- if a code is among the bytes, and `ys`, with a zero over each code, replaces them, this has the effect of feeding
+  -- them
   pub marked : inner.missing < len → (ys : List ℕ) (last left joint : ℕ) → IsWalked ys last left (inner.missing + 1) (inner.missing + 1 - 1) part → eqb joint 0 ≡ eqb last 255
       → FeedsQuietly before (phase_of inner) xs (put_mid inner.written (inner.written + len - inner.written) dest ys) (phase_of (moved_on inner len left joint))
   marked more ys last left joint e due =
