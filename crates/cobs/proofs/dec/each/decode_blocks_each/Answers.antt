@@ -1,4 +1,7 @@
--- The bytes that are still to be decoded begin with the open block (`left-block`). Each of its bytes is moved to its place.
+-- The frame h, the first `end` bytes of the buffer, is decoded in place, block by block. `Left` says which bytes of h
+-- are still to be decoded, and `BlockLeft` says it within a block; both are defined in `WrittenLemmas`. At the code of
+-- a block, the bytes of the block are the next ones (`block-begun`). Each of them is moved to its place (`byte-moved`),
+-- and then the next block follows (`moved`).
 use Rattle.std.proofs.Common.{◌≡◌, ◌+◌, ◌-◌, ◌<◌, ◌≤◌, ◌∷◌, [], ℕ, List, length, take, drop, get_or, set, arith, length-drop, length-take-le, rules}
 use Rattle.std.proofs.lemmas.List.{drop-drop, drop_more, get_or-drop, get_or-take}
 use Rattle.std.proofs.lemmas.List.Elements.{All-take}
@@ -7,6 +10,7 @@ use Rattle.cobs.proofs.decoding.WrittenLemmas.{BlockLeft, Left, block-behind, bl
 use Rattle.cobs.proofs.dec.each.decode_blocks_each.Goals as goal
 use Rattle.cobs.proofs.dec.each.decode_blocks_each.Goals.{Joined-read-next}
 
+-- `old` is the buffer before the call, and h is its first `end` bytes
 module _ (old : List ℕ) (end : ℕ) (fits : end ≤ length old) where
   abbrev h : List ℕ
   h = take end old
@@ -14,10 +18,11 @@ module _ (old : List ℕ) (end : ℕ) (fits : end ≤ length old) where
   long : length h ≡ end
   long = length-take-le end old fits
 
+  -- the number of bytes of h from index `read` on
   rest-long : (read : ℕ) → length (drop read h) ≡ end - read
   rest-long read = grind (arith, length-drop, long)
 
-  -- the code of the next block
+  -- the next block begins at index `read`; its bytes are still in their old places, because the output ends before them
   module _ {buffer : List ℕ} {written : ℕ} (read : ℕ) (l : Left h old buffer written (drop read h)) (order : written ≤ read) (here : read < end) where
     abbrev code : ℕ
     code = get_or buffer read 0
@@ -25,6 +30,7 @@ module _ (old : List ℕ) (end : ℕ) (fits : end ≤ length old) where
     some : 0 < length (drop read h)
     some = omega (arith, rest-long read)
 
+    -- `code` is the first of the bytes that are still to be decoded
     code-is : code ≡ get_or (drop read h) 0 0
     code-is =
         let place : read + 0 ≡ read = omega arith in
@@ -33,25 +39,30 @@ module _ (old : List ℕ) (end : ℕ) (fits : end ≤ length old) where
     positive : 0 < code
     positive = code-some l code some code-is
 
+    -- if h has the whole block, its bytes are the next ones to be decoded, and then the bytes after it
     block-begun : code ≤ end - read → BlockLeft h old buffer written (take (code - 1) (drop (read + 1) h)) code (drop (read + code) h)
     block-begun whole = rw (drop-drop 1 read h, drop-drop code read h) at (left-block l code some code-is (omega (arith, rest-long read)))
 
-  -- the next byte of a block; this byte is still in its old place
+  -- the next byte of the open block is at index `read`, still in its old place; the block ends before index `next`
   module _ {buffer after : List ℕ} {written code : ℕ} (read next : ℕ) (b : BlockLeft h old buffer written (take (next - read) (drop read h)) code after)
       (order : written < read) (more : read < next) (here : read < end) where
+    -- it is the first of the block's bytes that are still to be decoded
     next-byte : take (next - read) (drop read h) ≡ get_or buffer read 0 ∷ take (next - (read + 1)) (drop (read + 1) h)
     next-byte = grind (arith, block-behind, get_or-take, drop_more, long)
 
+    -- after it is moved, the others are still to be decoded
     byte-moved : BlockLeft h old (set buffer written (get_or buffer read 0)) (written + 1) (take (next - (read + 1)) (drop (read + 1) h)) code after
     byte-moved = block-more _ next-byte b (omega (arith, block-long b))
 
--- the bytes of the block with this code are moved, up to `r` and to `w`
+-- all bytes of a block with this code are moved: `after` is the buffer now, r the next index to read, which is `next`,
+-- and w the next index to write
 record BlockMoved (old : List ℕ) (end code next : ℕ) (after : List ℕ) (r w : ℕ) : Type 0 where
   read-is : r ≡ next
   order : w < r
   room : w < length after
   left : BlockLeft (take end old) old after w [] code (drop next (take end old))
 
+-- before the first block, all bytes of h are still to be decoded
 pub by_block-init : goal.by_block-init
 by_block-init c = record {
   order = omega arith;
@@ -59,6 +70,7 @@ by_block-init c = record {
   left = left-all _ _ c.requires.nonzero (All-take (λ b. b < 256) _ _ (bytes_below _ (search rules)));
 }
 
+-- the block breaks off, so the result is an error
 pub returns-then-end-read : goal.returns-then-end-read
 returns-then-end-read c =
     let i = c.by_block.invariant in
@@ -66,6 +78,7 @@ returns-then-end-read c =
     decoded-in_place _ _ (omega (arith, long _ _ within))
     (left-broken i.left _ (some _ _ within _ i.left i.order c.by_block-test.true) (code-is _ _ within _ i.left i.order c.by_block-test.true) (omega (arith, rest-long _ _ within c.by_block.read)))
 
+-- at the first byte of a block; the block has at least one byte after its code
 pub by_byte-init : goal.by_byte-init
 by_byte-init c =
     let i = c.by_block.invariant in
@@ -73,10 +86,11 @@ by_byte-init c =
     let some = positive _ _ c.requires.within _ i.left i.order c.by_block-test.true in
     grind arith
 
+-- one more byte of the block is moved
 pub by_byte-preserved : goal.by_byte-preserved
 by_byte-preserved c = grind (arith, byte-moved)
 
--- the block is moved, and the next block follows it
+-- after the `if`, all bytes of the block are moved: in the loop, or there was none
 moved : (c : Joined-read-next) → let code = get_or c.by_block.buffer c.by_block.read 0 in
     BlockMoved c.args.buffer.now c.args.end code (c.by_block.read + code) c.if-read-next.buffer c.if-read-next.read c.if-read-next.written
 moved c =
@@ -89,12 +103,15 @@ moved c =
           grind arith)
     ]
 
+-- a zero joins the block to the next block
 pub by_block-preserved-then-read-end : goal.by_block-preserved-then-read-end
 by_block-preserved-then-read-end c = grind (arith, moved, rest-long, block-zero)
 
+-- no zero follows the block, because it is full or the last one
 pub by_block-preserved : goal.by_block-preserved
 by_block-preserved c = grind (arith, moved, rest-long, block-last)
 
+-- no byte is left, so the result is the number of written bytes
 pub returns : goal.returns
 returns c =
     let i = c.by_block.invariant in

@@ -1,5 +1,7 @@
--- The bytes that are still to be decoded begin with the open block (`left-block`). Each of its bytes is written if there
--- is room for it.
+-- The frame h, the bytes of the XORed source before the first sentinel, is decoded block by block. `Left` says which
+-- bytes of h are still to be decoded, and `BlockLeft` says it within a block; both are defined in `WrittenLemmas`. At
+-- the code of a block, the bytes of the block are the next ones (`left-block`). Each of them is written if there is
+-- room for it (`block-more`), otherwise the result is an error (`block-full`).
 use Rattle.std.proofs.Common.{◌≡◌, ◌∙◌, ◌-◌, ◌+◌, ◌<◌, ◌≤◌, ◌∷◌, [], ℕ, List, Result, true, false, length, take, drop, get_or, sym, arith, Bool, eqb}
 use Rattle.std.proofs.lemmas.Bool.{eqb-true}
 use Rattle.std.proofs.lemmas.List.{drop_all, drop_more, get_or-map, length-map, take-map}
@@ -18,40 +20,46 @@ use Rattle.cobs.proofs.decoding.WrittenLemmas.{block-full, block-last, block-mor
 use Rattle.cobs.proofs.format.SentinelLemmas.{front_xored, rest_xored}
 use Rattle.cobs.proofs.dec.each.decode_head_each.Goals as goal
 
--- no byte is left, or at least one
+-- `is_empty` returned true, so no byte is left
 none-left : (rest : List ℕ) (empty : Bool) → empty ≡ eqb (length rest) 0 → empty ≡ true → length rest ≡ 0
 none-left rest empty is e = eqb-true (length rest) 0 (sym is ∙ e)
 
+-- `is_empty` returned false, so at least one byte is left
 some-left : (rest : List ℕ) (empty : Bool) → empty ≡ eqb (length rest) 0 → empty ≡ false → 0 < length rest
 some-left rest empty is e = grind (arith, is)
 
--- the next byte of a block, and the end of the block
+-- the bytes of a block from index k on, XORed, begin with the XORed byte at index k
 more-bytes : (s : ℕ) (items : List ℕ) (k : ℕ) → k < length items → xor_each s (drop k items) ≡ bit_xor (get_or items k 0) s ∷ xor_each s (drop (k + 1) items)
 more-bytes s items k less = grind (arith, drop_more)
 
+-- after the last byte of a block, no byte of it is left
 bytes-ended : (s : ℕ) (items : List ℕ) (k : ℕ) → length items ≤ k → xor_each s (drop k items) ≡ []
 bytes-ended s items k all = grind (arith, drop_all)
 
+-- h is the frame, that is, the bytes of the XORed source before its first zero
 module _ (source old : List ℕ) (s : ℕ) where
   abbrev h : List ℕ
   h = head (xor_each s source)
 
-  -- the clauses follow from the result for the bytes before the first sentinel
+  -- the clauses follow from the result and the buffer for h
   answered : (buffer : List ℕ) (result : Result ℕ DecodeError) → 0 < length source → Decoded h old buffer result
       → record { returned : result ≡ result_of_sentinel_decode (xor_each s source) (length old); buffer : buffer ≡ overwritten old (kept_output h) }
   answered buffer result some d = grind (arith, result_of_sentinel_decode-head)
 
--- the rest of the frame, XORed, and its first code
+-- `rest` consists of the bytes that are still to be decoded, as they are in the source; `code` is their first code
 module _ (rest : List ℕ) (s : ℕ) where
+  -- XORed, they are as many bytes
   long : length (xor_each s rest) ≡ length rest
   long = length-map rest (λ b. bit_xor b s)
 
   abbrev code : ℕ
   code = bit_xor (get_or rest 0 0) s
 
+  -- `code` is the first of the XORed bytes
   code-is : 0 < length rest → code ≡ get_or (xor_each s rest) 0 0
   code-is some = grind (arith, get_or-map)
 
+  -- the XORed bytes of the first block after its code
   items-are : xor_each s (take (code - 1) (drop 1 rest)) ≡ take (code - 1) (drop 1 (xor_each s rest))
   items-are = grind (arith, take-map)
 
@@ -59,12 +67,15 @@ module _ (rest : List ℕ) (s : ℕ) where
   next-is : xor_each s (take (length rest - code) (drop code rest)) ≡ drop code (xor_each s rest)
   next-is = rest_xored rest s code
 
+  -- there are as many bytes after the first block, XORed or not
   next-long : length (drop code (xor_each s rest)) ≡ length (take (length rest - code) (drop code rest))
   next-long = grind (arith, next-is, length-map)
 
+-- an empty source: nothing is written
 pub returns-then-is_empty-clause-buffer : goal.returns-then-is_empty-clause-buffer
 returns-then-is_empty-clause-buffer c = grind (arith, nothing_kept, none-left)
 
+-- before the first block, all bytes of h are still to be decoded
 pub by_block-init : goal.by_block-init
 by_block-init c =
     let e = c.len_to.ensures in
@@ -73,6 +84,7 @@ by_block-init c =
     let below = All-take (λ b. b < 256) c.len_to.result _ (xored_below c.args.sentinel c.args.source.now c.ranges.sentinel.fits c.type_inv.source) in
     rw is (left-all _ _ (rw is at nonzero) (rw (← front_xored, is) at below))
 
+-- the block breaks off, so the result is an error
 pub returns-then-rest-code : goal.returns-then-rest-code
 returns-then-rest-code c =
     let rest : List ℕ = c.by_block.rest.now in
@@ -81,12 +93,14 @@ returns-then-rest-code c =
     answered _ _ _ _ _ (some-left _ _ c.is_empty.ensures c.if-is_empty.false)
     (left-broken c.by_block.invariant _ (omega (arith, long rest s)) (code-is rest s some) (omega (arith, long rest s, c.if-rest-code.true)))
 
+-- the range of the block's bytes, `1..code`, is within bounds, because a code isn't 0
 pub slice_bounds-byte-items-count : goal.slice_bounds-byte-items-count
 slice_bounds-byte-items-count c = grind (arith, code-some, long, code-is)
 
 pub slice_bounds-byte-items-start : goal.slice_bounds-byte-items-start
 slice_bounds-byte-items-start c = omega (arith, slice_bounds-byte-items-count c)
 
+-- at the first byte of a block, all its bytes are still to be decoded
 pub by_byte-init : goal.by_byte-init
 by_byte-init c =
     let rest : List ℕ = c.by_block.rest.now in
@@ -94,14 +108,17 @@ by_byte-init c =
     let some = some-left rest _ c.is_empty-in-by_block.ensures c.by_block-test.true in
     rw (items-are rest s) (left-block c.by_block.invariant _ (omega (arith, long rest s)) (code-is rest s some) (omega (arith, long rest s, c.if-rest-code.false)))
 
+-- one more byte of the block is written
 pub by_byte-preserved : goal.by_byte-preserved
 by_byte-preserved c = grind (arith, block-more, more-bytes)
 
+-- there is no room for a byte of the block
 pub returns-then-dest-written : goal.returns-then-dest-written
 returns-then-dest-written c =
     answered _ _ _ _ _ (some-left _ _ c.is_empty.ensures c.if-is_empty.false)
     (block-full _ (more-bytes _ _ _ c.by_byte-test.true) c.by_byte.invariant c.if-dest-written.true)
 
+-- there is no room for the zero that joins two blocks
 pub returns-then-dest-written-2 : goal.returns-then-dest-written-2
 returns-then-dest-written-2 c =
     let more = some-left _ _ c.is_empty-then-code-ne-FULL_CODE.ensures c.if-not-is_empty.true in
@@ -109,6 +126,7 @@ returns-then-dest-written-2 c =
     (zero-full (bytes-ended _ _ _ c.by_byte-test.false) c.by_byte.invariant (omega (arith, more, next-long c.by_block.rest.now c.args.sentinel))
     c.if-code-ne-FULL_CODE.true c.if-dest-written-2.true)
 
+-- a zero joins the block to the next block
 pub by_block-preserved-then-not-is_empty : goal.by_block-preserved-then-not-is_empty
 by_block-preserved-then-not-is_empty c =
     let more = some-left _ _ c.is_empty-then-code-ne-FULL_CODE.ensures c.if-not-is_empty.true in
@@ -116,9 +134,11 @@ by_block-preserved-then-not-is_empty c =
     (block-zero (bytes-ended _ _ _ c.by_byte-test.false) c.by_byte.invariant (omega (arith, more, next-long c.by_block.rest.now c.args.sentinel))
     c.if-code-ne-FULL_CODE.true c.if-dest-written-2.false)
 
+-- no zero follows the block, because it is full or the last one
 pub by_block-preserved : goal.by_block-preserved
 by_block-preserved c = grind (arith, next-long, none-left, next-is, block-last, bytes-ended)
 
+-- no byte is left, so the result is the number of written bytes
 pub returns : goal.returns
 returns c =
     let none = none-left _ _ c.is_empty-in-by_block.ensures c.by_block-test.false in

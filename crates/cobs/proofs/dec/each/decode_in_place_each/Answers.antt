@@ -1,5 +1,6 @@
--- The bytes up to the first zero are the head of the buffer (`front_is_head`), so their result is the report
--- (`in_place_report-decoded`, `in_place_report-rejected`).
+-- The bytes up to the first zero are the head of the buffer (`front_is_head`), so the result of `decode_blocks_each`
+-- for these bytes gives the report (`in_place_report-decoded`), or an error if the frame is broken
+-- (`in_place_report-rejected`).
 use Rattle.std.proofs.Common.{arith, length-take-le}
 use Rattle.cobs.proofs.decoding.HeadLemmas.{front_is_head}
 use Rattle.cobs.proofs.decoding.OutcomeSteps.{in_place_report-rejected, in_place_report-decoded}

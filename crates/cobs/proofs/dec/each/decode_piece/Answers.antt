@@ -1,4 +1,5 @@
--- For each byte a lemma of `ReadPiece` says that the invariant still holds, or that the piece ends.
+-- For each byte, a lemma of `ReadPiece` says that the invariant `IsRead` still holds after it, or that the call returns
+-- the right result.
 use Rattle.std.proofs.Common.{arith}
 use Rattle.std.proofs.lemmas.Bool.{eq-eqb, ne_eqb}
 use Rattle.cobs.proofs.streaming.ReadPiece.{ended, first-code, no-piece, over, read-byte, read-first, read-full, read-zero}
@@ -8,25 +9,29 @@ use Rattle.cobs.proofs.dec.each.decode_piece.Goals as goal
 pub returns-then-start-source : goal.returns-then-start-source
 returns-then-start-source c = no-piece _ _ _ c.leading_zeros-start.ensures.count c.if-start-source.true
 
+-- the first code isn't 0, so 1 can be subtracted from it
 pub overflow_sub-left : goal.overflow_sub-left
 overflow_sub-left c = grind (arith, first-code)
 
+-- after the first code
 pub by_byte-init : goal.by_byte-init
 by_byte-init c = grind (arith, read-first)
 
--- a byte of the block
+-- there is no room for a byte of the open block
 pub returns-then-written-dest : goal.returns-then-written-dest
 returns-then-written-dest c =
     over c.by_byte.invariant c.by_byte-test.true c.if-byte-eq0.false (λ none. absurd (c.if-left-ne0.true none)) (omega arith) c.through_piece.ensures.end
 
+-- a byte of the open block is written
 pub by_byte-preserved-then-left-ne0 : goal.by_byte-preserved-then-left-ne0
 by_byte-preserved-then-left-ne0 c = grind (arith, read-byte)
 
--- a code after a block that isn't full, and a code after a full block
+-- there is no room for the zero between two blocks
 pub returns-then-written-dest-2 : goal.returns-then-written-dest-2
 returns-then-written-dest-2 c =
     over c.by_byte.invariant c.by_byte-test.true c.if-byte-eq0.false (λ _. ne_eqb _ 255 c.if-code.true) (omega arith) c.through_piece-then-written-dest-2.ensures.end
 
+-- a code after a block that isn't full (`read-zero`), or after a full block (`read-full`)
 pub by_byte-preserved : goal.by_byte-preserved
 by_byte-preserved c = grind (arith, read-zero, ne_eqb, read-full, eq-eqb)
 

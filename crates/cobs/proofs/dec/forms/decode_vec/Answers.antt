@@ -11,9 +11,11 @@ use Rattle.cobs.proofs.decoding.VectorHeadline.{decoded_reads}
 use Rattle.cobs.proofs.decoding.VectorSteps.{decoded-rejected, decoded-message}
 use Rattle.cobs.proofs.dec.forms.decode_vec.Goals as goal
 
+-- the vector, cut to the message's length, is the message of the source
 pub returns-clause-message : goal.returns-clause-message
 returns-clause-message c = grind (arith, take_at, decoded-message, eqb-false)
 
+-- if the source is a frame of m, its message is m
 pub returns-clause-reads : goal.returns-clause-reads
 returns-clause-reads c found m r =
     let message = returns-clause-message c in
@@ -23,6 +25,7 @@ returns-clause-reads c found m r =
 pub returns-clause-only : goal.returns-clause-only
 returns-clause-only c piece m same = grind (arith, decoded_reads, bytes_below, returns-clause-message)
 
+-- `decode` returned an error: it is the error that is returned (`is`), and that of the source (`no`)
 pub returns-in_err-report : goal.returns-in_err-report
 returns-in_err-report c =
     let some : 0 < length c.args.source.now = grind arith in
@@ -33,6 +36,7 @@ returns-in_err-report c =
       refused = no.0;
       empty = λ none. absurd (omega (arith, ap length none));
       room = λ same. no.1 (cc);
+      -- the source isn't a frame, because a frame has no error
       reads = λ found m r. absurd (let rejected = no.0 in let same = (decoded_reads c.args.source.now (bytes_below _ c.type_inv.source) m (frame_piece r)).1 r in cc);
       only = λ piece m e. absurd e;
     })

@@ -13,9 +13,11 @@ use Rattle.cobs.proofs.decoding.VectorHeadline.{decoded_head_reads}
 use Rattle.cobs.proofs.decoding.VectorSteps.{decoded_head-rejected, decoded_head-message}
 use Rattle.cobs.proofs.dec.forms.decode_vec_with_sentinel.Goals as goal
 
+-- the vector, cut to the message's length, is the message of the bytes before the first sentinel
 pub returns-clause-message : goal.returns-clause-message
 returns-clause-message c = grind (arith, length-map, bit_xor, take_at, decoded_head-message, eqb-false)
 
+-- if the XORed source is a frame of m, its message is m
 pub returns-clause-reads : goal.returns-clause-reads
 returns-clause-reads c found m r =
     let message = returns-clause-message c in
@@ -25,6 +27,7 @@ returns-clause-reads c found m r =
 pub returns-clause-only : goal.returns-clause-only
 returns-clause-only c piece m same = grind (arith, decoded_head_reads, xored_below, returns-clause-message)
 
+-- `decode_with_sentinel` returned an error: it is the error that is returned (`is`), and that of the source (`no`)
 pub returns-in_err-len : goal.returns-in_err-len
 returns-in_err-len c =
     let some : 0 < length c.args.source.now = grind arith in
@@ -37,6 +40,7 @@ returns-in_err-len c =
       refused = no.0;
       empty = λ none. absurd (omega (arith, ap length none));
       room = λ same. no.1 (cc);
+      -- the XORed source isn't a frame, because a frame has no error
       reads = λ found m r. absurd (let rejected = no.0 in let same = (decoded_head_reads _ (xored_below _ _ c.ranges.sentinel.fits c.type_inv.source) m (frame_piece r)).1 r in cc);
       only = λ piece m e. absurd e;
     })

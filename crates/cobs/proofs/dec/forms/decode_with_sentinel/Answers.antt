@@ -13,15 +13,18 @@ use Rattle.cobs.proofs.decoding.TailLemmas.{whole-kept}
 use Rattle.cobs.proofs.streaming.KeptQuiet.{whole_front, whole_result}
 use Rattle.cobs.proofs.dec.forms.decode_with_sentinel.Goals as goal
 
+-- without vectors, `decode_head_each` decodes the frame
 pub returns-then-not-has_vectors : goal.returns-then-not-has_vectors
 returns-then-not-has_vectors c =
     let e = c.decode_head_each.ensures in
     source_clauses _ _ _ _ e.returned e.buffer (xored_below c.args.sentinel c.args.source.now c.ranges.sentinel.fits c.type_inv.source)
 
+-- an empty source: nothing is written
 pub returns-then-is_empty-clause-buffer : goal.returns-then-is_empty-clause-buffer
 returns-then-is_empty-clause-buffer c = grind (arith, nothing_kept, eqb-true)
 
--- the span is a frame (`found`), and its message was copied from the local buffer (`written`)
+-- `decode_span` decoded the bytes before the first sentinel into the local buffer, and they are a whole frame
+-- (`found`); then the message was copied to `dest` (`written`)
 pub returns-then-eq : goal.returns-then-eq
 returns-then-eq c =
     let source : List ℕ = c.args.source.now in
@@ -29,6 +32,7 @@ returns-then-eq c =
     let f : List ℕ = xor_each s source in
     let n : ℕ = length c.args.dest.now in
     let len : ℕ = c.len_without_end-len.result in
+    -- h is what `decode_span` gets, XORed: the bytes before the first sentinel (`is`)
     let h : List ℕ = xor_each s (take len source) in
     let e = c.len_without_end-len.ensures in
     let found : c.decode_span.result ≡ Some 0 = grind arith in
@@ -40,13 +44,16 @@ returns-then-eq c =
     let count = ap length written in
     let some : 0 < length source = omega arith in
     let returned : Ok (len - 1) ≡ result_of_sentinel_decode f n = grind (arith, whole_result, result-fits, whole-kept, result_of_sentinel_decode-head) in
+    -- `dest` has the message, and then the bytes that it had before
     let buffer = rw is at (whole_front h c.args.dest.now _ (len - 1) whole written (omega (arith, d.len)) (omega (arith, d.len))) in
     let below = xored_below s source c.ranges.sentinel.fits c.type_inv.source in
     source_clauses _ _ _ _ returned buffer below
 
+-- no byte that `decode_blocks` gets is the sentinel
 pub decode_blocks-requires : goal.decode_blocks-requires
 decode_blocks-requires c = grind (arith, xor_no_zero)
 
+-- `decode_blocks` decoded the bytes before the first sentinel
 pub returns : goal.returns
 returns c =
     let f : List ℕ = xor_each c.args.sentinel c.args.source.now in

@@ -1,5 +1,6 @@
 -- First all bytes except the last 254 are fed, and then as many of the last 254 as the kept output needs (`kept_len`).
--- From both steps together `kept_fed` derives the result and the buffer.
+-- Both calls of `take_in_place` write to the buffer that they read from; the first call leaves the last 254 bytes as
+-- they were (`rest`). From both calls together `kept_fed` derives the result and the buffer.
 use Rattle.std.proofs.Common.{◌≡◌, ◌≢◌, ◌+◌, ◌-◌, ◌<◌, ◌≤◌, ℕ, All, List, length, take, drop, arith, length-drop, length-take, length-take-le, rules}
 use Rattle.std.proofs.lemmas.List.{drop-take, take-take}
 use Rattle.std.proofs.lemmas.List.Elements.{All-drop, All-take}
@@ -17,10 +18,12 @@ use Rattle.cobs.proofs.dec.in_place.decode_blocks_in_place.Goals.{After-take_in_
 use Rattle.cobs_bytes.proofs.bytes.XoredLemmas.{xor_each-zero}
 use Rattle.cobs_bytes.proofs.bytes.ListLemmas.{part-nonzero}
 
+-- no byte that the first call gets is a zero
 pub take_in_place-requires-clause-nonzero : goal.take_in_place-requires-clause-nonzero
 take_in_place-requires-clause-nonzero c = part-nonzero 0 _ _ _ c.requires.nonzero (omega arith)
 
--- the first bytes of the frame h are fed, and the last 254 bytes are as they were
+-- after the first call: h is the frame, `tail` is the number of its bytes except the last 254, and `new` is the buffer
+-- now
 module _ (c : After-take_in_place) where
   abbrev h : List ℕ
   h = take c.args.end c.args.buffer.now
@@ -34,42 +37,50 @@ module _ (c : After-take_in_place) where
   long : length h ≡ c.args.end
   long = grind (arith, length-take-le)
 
+  -- the bytes of h are below 256
   below : All (λ b. b < 256) h
   below = All-take (λ b. b < 256) c.args.end c.args.buffer.now (bytes_below _ (search rules))
 
+  -- all bytes of h except the last 254 are fed quietly
   fed : FeedsQuietly c.args.buffer.now Idle (take tail h) new (phase_of c.take_in_place.new.self)
   fed = grind (arith, take-take)
 
+  -- the bytes of the buffer after them are as they were
   rest : drop tail new ≡ drop tail c.args.buffer.now
   rest =
       let nz = part-nonzero 0 (tail - 0) c.args.end c.args.buffer.now c.requires.nonzero (omega arith) in
       grind (arith, rest_read c.args.buffer.now new START c.take_in_place.new.self 0 tail tail (omega arith) (omega arith) nz c.take_in_place.ensures.fed c.take_in_place.ensures.behind)
 
-  -- the last 254 bytes
+  -- `kept_len` gets the last 254 bytes of h from the buffer, and XORs them with 0
   last : drop tail h ≡ xor_each 0 (take (c.args.end - tail) (drop tail new))
   last =
       let e : c.args.end ≡ tail + (c.args.end - tail) = omega arith in
       grind (arith, rest, xor_each-zero, drop-take)
 
+  -- the number of these bytes
   bytes-long : length (take (c.args.end - tail) (drop tail new)) ≡ c.args.end - tail
   bytes-long = grind (arith, length-take, length-drop)
 
+-- the missing bytes of the open block are among the last 254 bytes
 pub kept_len-len-requires-clause-left : goal.kept_len-len-requires-clause-left
 kept_len-len-requires-clause-left c =
     let at = (goal.at.kept_len-len-requires-clause-left c).After-take_in_place in
     let most = tail_left (h at) _ _ c.take_in_place.new.self (tail at) c.requires.nonzero (fed at) (omega (arith, long at)) (below at) in
     omega (arith, most, bytes-long at, long at)
 
+-- none of the last 254 bytes is a zero
 pub kept_len-len-requires-clause-nonzero : goal.kept_len-len-requires-clause-nonzero
 kept_len-len-requires-clause-nonzero c =
     let at = (goal.at.kept_len-len-requires-clause-nonzero c).After-take_in_place in
     rw (← last at) (All-drop (λ b. b ≢ 0) (tail at) (h at) c.requires.nonzero)
 
+-- no byte that the second call gets is a zero
 pub take_in_place-requires-2-clause-nonzero : goal.take_in_place-requires-2-clause-nonzero
 take_in_place-requires-2-clause-nonzero c =
     let at = (goal.at.take_in_place-requires-2-clause-nonzero c).After-take_in_place in
     rw (rest at) (part-nonzero (tail at) _ c.args.end _ c.requires.nonzero (omega (arith, c.kept_len-len.ensures.within, bytes-long at)))
 
+-- the second call takes the first n of the last 254 bytes (`next`)
 pub returns : goal.returns
 returns c =
     let at = (goal.at.returns c).After-take_in_place in

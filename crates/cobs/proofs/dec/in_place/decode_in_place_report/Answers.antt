@@ -1,22 +1,27 @@
--- The bytes up to the first zero are the head of the buffer (`front_is_head`), so their result is the report
--- (`in_place_report-decoded`, `in_place_report-rejected`). On each path through the function, the clauses follow from
--- the report and the buffer (`in_place_clauses`).
+-- The bytes up to the first zero are the head of the buffer (`front_is_head`), so the result of
+-- `decode_blocks_in_place` for these bytes gives the report (`in_place_report-decoded`), or an error if the frame is
+-- broken (`in_place_report-rejected`). On each path through the function, the clauses follow from the report and the
+-- buffer (`in_place_clauses`).
 use Rattle.std.proofs.Common.{arith, rules, length-take-le}
 use Rattle.cobs.proofs.decoding.HeadLemmas.{front_is_head}
 use Rattle.cobs.proofs.decoding.HeadlineLemmas.{bytes_below, in_place_clauses}
 use Rattle.cobs.proofs.decoding.OutcomeSteps.{in_place_report-rejected, in_place_report-decoded}
 use Rattle.cobs.proofs.dec.in_place.decode_in_place_report.Goals as goal
 
+-- `decode_blocks_in_place` returned an error
 pub returns-in_err-frame_size : goal.returns-in_err-frame_size
 returns-in_err-frame_size c =
     in_place_clauses _ _ _ (grind (arith, front_is_head, in_place_report-rejected)) (grind (arith, front_is_head)) (bytes_below _ (search rules))
 
+-- `decode_blocks_in_place` returned the message's length
 pub returns : goal.returns
 returns c =
     in_place_clauses _ _ _ (grind (arith, front_is_head, in_place_report-decoded, length-take-le)) (grind (arith, front_is_head)) (bytes_below _ (search rules))
 
+-- `decode_short_in_place` decoded the frame
 pub returns-in-Some : goal.returns-in-Some
 returns-in-Some c = in_place_clauses _ _ _ c.in-Some.ensures.returned c.in-Some.ensures.buffer (bytes_below _ (search rules))
 
+-- without vectors, `decode_in_place_each` decodes the frame
 pub returns-then-not-has_vectors : goal.returns-then-not-has_vectors
 returns-then-not-has_vectors c = grind (arith, in_place_clauses, bytes_below)

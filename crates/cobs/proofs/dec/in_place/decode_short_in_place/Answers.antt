@@ -1,5 +1,7 @@
--- If no byte of the buffer is a zero, except perhaps the last one, the bytes before that zero are the buffer's head
--- (`short_head`). So the result of `decode_span_in_place` for these bytes is the report (`in_place_report-decoded`).
+-- The bytes that `decode_span_in_place` decoded are followed by a zero or by the end of the buffer, so they are the
+-- buffer's head (`front_is_head`), and the result for them is the report (`in_place_report-decoded`). The clause
+-- `taken`: if the buffer is a short frame, with or without a zero after it, `decode_span_in_place` gets exactly this
+-- frame (`short_head`) and decodes it.
 use Rattle.std.proofs.Common.{arith, length-take-le}
 use Rattle.cobs.proofs.decoding.HeadLemmas.{front_is_head, head-front, short_head}
 use Rattle.cobs.proofs.decoding.OutcomeLemmas.{head_nonzero, length-head}
@@ -12,8 +14,10 @@ returns-clause-returned c = grind (arith, front_is_head, in_place_report-decoded
 pub returns-clause-buffer : goal.returns-clause-buffer
 returns-clause-buffer c = grind (arith, front_is_head)
 
+-- an empty buffer isn't a short frame
 pub returns-then-is_empty-clause-taken : goal.returns-then-is_empty-clause-taken
 returns-then-is_empty-clause-taken c short whole = grind (arith, length-head)
 
+-- `decode_span_in_place` decoded nothing, so the buffer isn't a short frame
 pub returns-then-not-decode_span_in_place-clause-taken : goal.returns-then-not-decode_span_in_place-clause-taken
 returns-then-not-decode_span_in_place-clause-taken c short whole = grind (arith, short_head, length-head, head-front, head_nonzero)

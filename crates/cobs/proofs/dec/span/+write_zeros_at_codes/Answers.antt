@@ -7,12 +7,15 @@ use Rattle.std.proofs.lemmas.List.Elements.{All-head}
 use Rattle.cobs.proofs.streaming.WalkLemmas.{behind-code, walked-next, walked-past, next-nonzero}
 use Rattle.cobs.proofs.dec.span.+write_zeros_at_codes.Goals as goal
 
+-- no code is in `dest`
 pub returns-then-dest-first : goal.returns-then-dest-first
 returns-then-dest-first t c = grind (arith, walked-past)
 
+-- what the recursive call requires
 pub write_zeros_at_codes-requires : goal.write_zeros_at_codes-requires
 write_zeros_at_codes-requires t c = grind (arith, All-head, behind-code, length-drop, next-nonzero)
 
+-- the walk over `dest` goes on after the next code as the recursive call says
 pub returns : goal.returns
 returns t c =
     let some : 0 < c.args.first = omega (arith, All-head (λ b. b ≢ 0) c.args.first c.args.dest.now c.requires.nonzero) in

@@ -1,5 +1,5 @@
--- The bytes after the first code are copied and XORed, and a zero is written over each code among them. The result is
--- the output of the piece (`as_piece`).
+-- The bytes after the first code are copied and XORed (`behind`), and a zero is written over each code among them. The
+-- result is the output of the piece (`piece`, by `as_piece`).
 use Rattle.std.proofs.Common.{◌≡◌, ◌≢◌, ◌-◌, ◌<◌, ◌≤◌, ◌∷◌, ◌++◌, ◌∙◌, ℕ, List, get_or, bit_xor, arith, length, take, drop, ap, refl, sym, length-drop}
 use Rattle.std.proofs.Math.Seq.{take-append_seam}
 use Rattle.std.proofs.lemmas.List.{length-map, take_rest}
@@ -13,35 +13,42 @@ use Rattle.cobs.proofs.streaming.WalkLemmas.{as_piece, length-walked, IsWalked}
 use Rattle.cobs.proofs.dec.span.decode_span.Goals as goal
 use Rattle.cobs_bytes.proofs.bytes.XoredLemmas.{xor_twice}
 
--- the bytes after the first one, copied
+-- the bytes of the source after the first one were copied to the front of `dest`, each XORed with s
 module _ (source dest rest : List ℕ) (s : ℕ) (some : 0 < length source) (copied : dest ≡ xor_each s (take (length source - 1) (drop 1 source)) ++ rest) where
+  -- the copied bytes
   abbrev behind : List ℕ
   behind = take (length source - 1) dest
 
+  -- they are the bytes after the first one, XORed
   behind-is : behind ≡ xor_each s (drop 1 source)
   behind-is = grind (arith, common_steps, take_rest, length-map, length-drop, take-append_seam)
 
   long : length behind ≡ length source - 1
   long = grind (arith, behind-is, length-map, length-drop)
 
+  -- the XORed source is the first code, and then the copied bytes
   source-is : xor_each s source ≡ bit_xor (get_or source 0 0) s ∷ behind
   source-is = grind (arith, bit_xor, get_or, behind-is)
 
-  -- with a zero over each code, these bytes are the output
+  -- `ys`, the copied bytes with a zero over each code, is the output of the XORed source; `left` bytes of its last
+  -- block are missing
   piece : length source ≤ 65 → get_or source 0 0 ≢ s → HasNoZero (xor_each s (take (length source - 1) (drop 1 source))) → {ys : List ℕ} {code left : ℕ} → IsWalked ys code left (bit_xor (get_or source 0 0) s) (bit_xor (get_or source 0 0) s - 1) behind
       → (ys ≡ output (xor_each s source)) × (left ≡ missing (last_part (xor_each s source)))
   piece few other nz w = rw source-is (as_piece _ _ w (omega (arith, long))
       (All-cons (λ b. b ≢ 0) _ behind (λ e. other (sym (xor_twice (get_or source 0 0) s) ∙ ap (λ (x : ℕ). bit_xor x s) e)) (rw behind-is (rw (take_rest source 1) at nz))))
 
+-- `copy_xored_short` found a zero, so the clause `taken` doesn't apply
 pub returns-then-not-copy_xored_short-clause-taken : goal.returns-then-not-copy_xored_short-clause-taken
 returns-then-not-copy_xored_short-clause-taken c few room nz =
     c.if-not-copy_xored_short.ensures.taken (rw (rest_xored c.args.source.now c.args.sentinel 1) (All-drop (λ b. b ≢ 0) 1 (xor_each c.args.sentinel c.args.source.now) nz))
 
--- the bytes of the output, and the missing bytes of the last block
+-- after all steps, the output of the source is in `dest`, and the number of missing bytes is returned
 module _ (c : goal.After-slice_known-3-1) where
+  -- what `piece` says of this call
   decoded : (c.write_zeros_at_copied-left.new.dest ≡ output (xor_each c.args.sentinel c.args.source.now)) × (c.write_zeros_at_copied-left.result.1 ≡ missing (last_part (xor_each c.args.sentinel c.args.source.now)))
   decoded = piece c.args.source.now c.copy_xored_short.new.dest _ c.args.sentinel (omega arith) (c.if-not-copy_xored_short.ensures.copied refl) (omega arith) c.if-source-sentinel.false (c.if-not-copy_xored_short.ensures.nonzero refl) c.write_zeros_at_copied-left.ensures
 
+-- the output has one byte fewer than the source
 pub returns-clause-len : goal.returns-clause-len
 returns-clause-len c = grind (arith, decoded, length-walked, long)
 

@@ -1,9 +1,11 @@
--- The clauses `reads` and `only` follow from `pushes` (`push_message`, `push_only`).
+-- The clauses `reads` and `only` follow from `pushes` (`push_message`, `push_only`), because the bytes have the type u8
+-- and so are below 256 (`c.type_inv.bytes`).
 use Rattle.std.proofs.Common.{arith}
 use Rattle.std.proofs.lemmas.Grind.{common_steps}
 use Rattle.cobs.proofs.streaming.PushHeadline.{push_message, push_only}
 use Rattle.cobs.proofs.dec.buffered.CobsDecoderOwned.push.Goals as goal
 
+-- `pushes` is the clause of the `push` of the decoder `inner`, for the bytes of the vector
 pub returns-clause-pushes : goal.returns-clause-pushes
 returns-clause-pushes c = grind (arith, common_steps)
 

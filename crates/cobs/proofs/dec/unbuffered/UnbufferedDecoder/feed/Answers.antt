@@ -1,5 +1,5 @@
--- The result, the buffer and the phase are those of the machine of `Step`, so `Feeds` and the table hold as for the
--- machine (`Feeds-as`, `FeedsByTable-step`).
+-- The result, the buffer and the phase are those of the machine of `Step` (the `ensures` of the method `step`). So
+-- `Feeds` and the table hold as they do for the machine (`Feeds-as`, `FeedsByTable-step`).
 use Rattle.std.proofs.Common.{arith}
 use Rattle.cobs.proofs.streaming.FeedLemmas.{Feeds-as}
 use Rattle.cobs.proofs.streaming.TableLemmas.{FeedsByTable-step}

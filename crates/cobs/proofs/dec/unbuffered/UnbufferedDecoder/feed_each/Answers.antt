@@ -1,5 +1,5 @@
--- Each byte, XORed with the sentinel, is fed to the machine of `Step`: it continues the piece (`piece-more`), or it is a zero
--- that ends the piece (`piece-ended`).
+-- Each byte, XORed with the sentinel, is fed to the machine of `Step`. It continues the piece (`next`, by
+-- `piece-more`), or it is a zero that ends the piece (`ended`, by `piece-ended`).
 use Rattle.std.proofs.Common.{◌≡◌, ◌<◌, ◌∙◌, ◌+◌, None, Some, take, ℕ, List, Result, Option, length, get_or, sym, ap, refl, arith}
 use Rattle.std.proofs.lemmas.List.{get_or-map, length-map, take_all}
 use Rattle.std.specs.Int.Bits.{bit_xor}
@@ -13,21 +13,23 @@ use Rattle.cobs.proofs.streaming.ByByteLemmas.{piece-nothing, piece-more, piece-
 use Rattle.cobs.proofs.streaming.FeedLemmas.{Feeds-as, Feeds-overlong, Feeds-zero, over_is}
 use Rattle.cobs.proofs.dec.unbuffered.UnbufferedDecoder.feed_each.Goals as goal
 
--- the byte at `i`, as it is in the frame for the sentinel 0
+-- the byte at index i, XORed with the sentinel s, is the byte of the frame for the sentinel 0
 module _ (bytes : List ℕ) (s i : ℕ) (within : i < length bytes) where
+  -- the byte at index i of the XORed bytes
   coded : get_or (xor_each s bytes) i 0 ≡ bit_xor (get_or bytes i 0) s
   coded = grind (arith, get_or-map)
 
   inside : i < length (xor_each s bytes)
   inside = omega (arith, length-map bytes (λ b. bit_xor b s))
 
+  -- no piece has ended in the first i of the XORed bytes
   module _ {old buffer : List ℕ} {first phase : Phase} (so_far : TakesPiece old first (take i (xor_each s bytes)) None buffer phase) where
-    -- it ends no piece
+    -- if the byte at index i ends no piece, no piece has ended in the first i + 1 bytes
     next : {buffer' : List ℕ} {phase' : Phase} {result : Result (Option ℕ) DecodeError} (byte : ℕ) → bit_xor (get_or bytes i 0) s ≡ byte → Feeds buffer phase byte result buffer' phase'
         → (byte ≡ 0 → end_reported result ≡ None) → TakesPiece old first (take (i + 1) (xor_each s bytes)) None buffer' phase'
     next byte is fed none = piece-more _ _ inside so_far (rw (coded, is) fed) (λ z. none (sym is ∙ sym coded ∙ z))
 
-    -- it is a zero, which ends one
+    -- if the byte at index i is a zero that ends a piece, the call returns this end
     ended : {buffer' : List ℕ} {phase' : Phase} {result : Result (Option ℕ) DecodeError} → bit_xor (get_or bytes i 0) s ≡ 0 → Feeds buffer phase 0 result buffer' phase'
         → (end : PieceEnd) → end_reported result ≡ Some end → TakesPiece old first (xor_each s bytes) (Some (end, i + 1)) buffer' phase'
     ended zero fed end is = piece-ended _ _ inside so_far (rw (coded, zero) fed) end (coded ∙ zero) is
@@ -35,22 +37,27 @@ module _ (bytes : List ℕ) (s i : ℕ) (within : i < length bytes) where
 pub by_byte-init : goal.by_byte-init
 by_byte-init c = piece-nothing _ _
 
+-- a nonzero byte, after which the piece isn't too long
 pub by_byte-preserved-else-here-ne0 : goal.by_byte-preserved-else-here-ne0
 by_byte-preserved-else-here-ne0 c =
     let e = c.take_byte.ensures in
     let nonzero = c.if-byte-ne0.true in
     next _ _ _ c.by_byte-test.true c.by_byte.invariant _ refl (Feeds-as refl (e.phase nonzero) (e.buffer nonzero)) (grind arith)
 
+-- a zero that ends no piece, because none has begun
 pub by_byte-preserved : goal.by_byte-preserved
 by_byte-preserved c =
     let none = ap end_reported (grind arith) ∙ sym c.reported.ensures.end ∙ c.in_default.is in
     rw c.end.ensures.idle (next _ _ _ c.by_byte-test.true c.by_byte.invariant 0 c.if-byte-ne0.false (Feeds-zero _ _) (λ _. none))
 
+-- a zero that ends a piece
 pub returns-in-Some : goal.returns-in-Some
 returns-in-Some c =
     let end = ap end_reported (grind arith) ∙ sym c.reported.ensures.end ∙ c.in-Some.is in
     record { takes = ended _ _ _ c.by_byte-test.true c.by_byte.invariant c.if-byte-ne0.false (Feeds-zero _ _) _ end }
 
+-- the second loop begins in three cases: after the last byte, after a byte that made the piece too long, or at once,
+-- because the piece was too long before the call
 pub to_end-init : goal.to_end-init
 to_end-init c = elim c.if-here-eq0.branch [
   | goal.then-here-eq0+else-by_byte-test w ↦
@@ -65,12 +72,14 @@ to_end-init c = elim c.if-here-eq0.branch [
   | goal.else-here-eq0 w ↦ rw (w.dest-is, w.here-is, w.taken-is) (record { none_ended = piece-nothing _ _; overlong = λ _. over_is c.args.self.now w.if-here-eq0.false })
 ]
 
+-- the zero that ends the piece that is too long
 pub returns-then-byte-eq0 : goal.returns-then-byte-eq0
 returns-then-byte-eq0 c =
     let more = c.to_end-test.true in
     let taken = rw (c.to_end.invariant.overlong more) at c.to_end.invariant.none_ended in
     record { takes = ended _ _ _ more taken c.if-byte-eq0.true (Feeds-zero _ Overlong) TooLong refl }
 
+-- a nonzero byte of the piece that is too long
 pub to_end-preserved : goal.to_end-preserved
 to_end-preserved c =
     let more = c.to_end-test.true in
@@ -81,5 +90,6 @@ to_end-preserved c =
       overlong = λ _. over;
     }
 
+-- all bytes are taken, and no piece has ended
 pub returns : goal.returns
 returns c = grind (arith, length-map, take_all)

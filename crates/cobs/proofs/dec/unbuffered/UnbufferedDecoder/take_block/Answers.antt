@@ -10,18 +10,21 @@ use Rattle.cobs.proofs.format.SentinelLemmas.{first_xored, slice_xored}
 use Rattle.cobs.proofs.streaming.SpanLemmas.{block_fed, FeedsQuietly-more, copied_put}
 use Rattle.cobs.proofs.dec.unbuffered.UnbufferedDecoder.take_block.Goals as goal
 
--- the code, and then the bytes of its block
+-- the bytes of the block are fed after its code: h are the bytes, XORed with the sentinel s, and n bytes follow the
+-- code
 pub returns-clause-fed : goal.returns-clause-fed
 returns-clause-fed c =
     let bytes : List ℕ = c.args.bytes.now in
     let s : ℕ = c.args.sentinel in
     let h : List ℕ = xor_each s bytes in
     let n : ℕ = c.min-len.result in
+    -- the decoder and the buffer after the code
     let inner = c.take_joint.new.self in
     let dest : List ℕ = c.take_joint.new.dest in
     let part : List ℕ = take (1 + n - 1) (drop 1 bytes) in
     let long : length part ≡ n = omega (arith, length-take-le (1 + n - 1) (drop 1 bytes) (omega (arith, length-drop 1 bytes))) in
     let long-h : length h ≡ length bytes = length-map bytes (λ (b : ℕ). bit_xor b s) in
+    -- the bytes that were copied after the output are the n bytes of h after the code
     let put = copied_put inner.written n s dest _ part (take n (drop 1 h)) c.copy_xored.ensures (slice_xored bytes s 1 n) long in
     let nz = All-take (λ b. b ≢ 0) n (drop 1 h) (All-drop (λ b. b ≢ 0) 1 h c.requires.nonzero) in
     let more : FeedsQuietly dest (phase_of inner) (take n (drop 1 h)) _ _

@@ -1,18 +1,21 @@
--- Bytes that were copied after the output are fed: those of the open block as they are (`kept`), those after it with a
--- zero over each code (`marked`).
+-- Bytes that were copied after the output are fed. If all of them belong to the open block, they stay as they are
+-- (`kept`). Otherwise `write_zeros_at_copied` writes a zero over each code among them (`marked`).
 use Rattle.std.proofs.Common.{arith, length}
 use Rattle.cobs.proofs.streaming.SpanLemmas.{joint-is, kept, marked}
 use Rattle.cobs.proofs.dec.unbuffered.UnbufferedDecoder.take_copied.Goals as goal
 
+-- the part of the buffer after the output has the copied bytes, and no zero, as `write_zeros_at_copied` requires
 pub write_zeros_at_copied-requires-clause-copied : goal.write_zeros_at_copied-requires-clause-copied
 write_zeros_at_copied-requires-clause-copied c = grind arith
 
 pub write_zeros_at_copied-requires-clause-nonzero : goal.write_zeros_at_copied-requires-clause-nonzero
 write_zeros_at_copied-requires-clause-nonzero c = grind arith
 
+-- all bytes belong to the open block
 pub returns-then-len-missing-clause-fed : goal.returns-then-len-missing-clause-fed
 returns-then-len-missing-clause-fed c before xs room long is = grind (arith, kept)
 
+-- a code is among the bytes; `settle` makes the last code's block the open block (j)
 pub returns-clause-fed : goal.returns-clause-fed
 returns-clause-fed c before xs room long is =
     let j = c.settle.ensures in

@@ -1,5 +1,6 @@
--- The bytes after the first code are copied (`front-is`), and a zero is written over each code among them. So they are
--- decoded as the front of a piece (`fed`).
+-- The first code of a piece, and up to 64 bytes after it, are taken at once. The bytes after the code are copied to the
+-- front of the buffer (`front-is`), and a zero is written over each code among them. This has the effect of feeding the
+-- code and these bytes (`fed`, by `fed_piece`).
 use Rattle.std.proofs.Common.{◌≡◌, ◌≢◌, ◌-◌, ◌+◌, ◌∷◌, ◌++◌, ◌∙◌, ◌≤◌, ◌<◌, eqb, ℕ, List, ap, refl, subst, sym, arith, drop, get_or, length, length-drop, take}
 use Rattle.std.proofs.lemmas.List.{take_rest}
 use Rattle.std.proofs.lemmas.List.Elements.{All-cons, All-drop, All-get_or}
@@ -14,7 +15,7 @@ use Rattle.cobs.proofs.streaming.WalkLemmas.{fed_piece, length-walked, IsWalked}
 use Rattle.cobs.proofs.dec.unbuffered.UnbufferedDecoder.take_front.Goals as goal
 use Rattle.cobs_bytes.proofs.bytes.XoredLemmas.{xor_each-zero}
 
--- 2 to 65 bytes of a piece; those after the first one are copied to the front of a buffer
+-- 2 to 65 bytes of a piece; those after the first byte were copied to the front of `dest`, which is now `copied`
 module _ (bytes dest copied : List ℕ) (some : 1 < length bytes) (few : length bytes ≤ 65) (nz : HasNoZero bytes)
     (is : copied ≡ over 0 dest (take (length bytes - 1) (drop 1 bytes))) where
   abbrev codes : List ℕ
@@ -23,22 +24,28 @@ module _ (bytes dest copied : List ℕ) (some : 1 < length bytes) (few : length 
   abbrev first : ℕ
   first = get_or bytes 0 0
 
-  -- the first byte, and the bytes after it
+  -- the bytes are the first code, and the bytes after it
   are : bytes ≡ first ∷ codes
   are = grind arith
 
+  -- the number of bytes after the first code
   long : length codes ≡ length bytes - 1
   long = length-drop 1 bytes
 
+  -- the buffer begins with the bytes after the first code
   front-is : take (length bytes - 1) copied ≡ codes
   front-is = rw (is, take_rest bytes 1) (ap (λ (i : ℕ). take i (over 0 dest codes)) (sym long) ∙ take-append_seam codes _)
 
+  -- the other bytes of the buffer are as they were
   behind-is : drop (length bytes - 1) copied ≡ drop (0 + length codes) dest
   behind-is = rw (is, take_rest bytes 1) (ap (λ (i : ℕ). drop i (over 0 dest codes)) (sym long) ∙ drop-append_seam codes (drop (0 + length codes) dest))
 
+  -- no byte is a zero
   nonzero : HasNoZero (first ∷ codes)
   nonzero = All-cons (λ b. b ≢ 0) first codes (All-get_or (λ b. b ≢ 0) bytes 0 0 (omega (arith, some)) nz) (All-drop (λ b. b ≢ 0) 1 bytes nz)
 
+  -- `ys`, the bytes after the first code with a zero over each code, is written to the front of the buffer. This has
+  -- the effect of feeding all bytes to an idle decoder; `joint` agrees with the last code.
   fed : length bytes - 1 ≤ length dest → (ys : List ℕ) (code left joint : ℕ)
       → IsWalked ys code left first (first - 1) (take (length bytes - 1) copied) → eqb joint 0 ≡ eqb code 255
       → FeedsQuietly dest Idle bytes (ys ++ drop (length bytes - 1) copied) (phase_with (eqb joint 0) left (length bytes - 1))
@@ -46,11 +53,13 @@ module _ (bytes dest copied : List ℕ) (some : 1 < length bytes) (few : length 
       let w = rw front-is at walk in
       let f = fed_piece first codes dest w (omega (arith, long, few)) nonzero (omega (arith, long, room)) in
       let same : length ys ≡ length codes = ap (λ (v : List ℕ × ℕ × ℕ). length v.0) w ∙ length-walked first (first - 1) codes in
+      -- the buffer and the phase of `fed_piece`, in the words of this lemma
       let buffer : over 0 dest ys ≡ ys ++ drop (length bytes - 1) copied = rw (behind-is, same) refl in
       let phase : phase_with (eqb joint 0) left (length bytes - 1) ≡ Within (eqb code 255) left (length codes)
       = rw (due, long) (phase_with-begun (eqb code 255) left (length bytes - 1) (omega (arith, some))) in
       rw (phase, ← buffer) (subst (λ xs. FeedsQuietly dest Idle xs (over 0 dest ys) (Within (eqb code 255) left (length codes))) (sym are) f)
 
+-- the front of the buffer has the bytes after the first code, and no zero, as `write_zeros_at_copied` requires
 pub write_zeros_at_copied-code-requires-clause-copied : goal.write_zeros_at_copied-code-requires-clause-copied
 write_zeros_at_copied-code-requires-clause-copied c =
     let bytes : List ℕ = c.args.bytes.now in
@@ -66,6 +75,7 @@ write_zeros_at_copied-code-requires-clause-nonzero c =
     rw (front-is bytes c.args.dest.now copied c.if-len-lt2.false c.requires.few c.requires.nonzero is)
     (nonzero bytes c.args.dest.now copied c.if-len-lt2.false c.requires.few c.requires.nonzero is)
 
+-- the bytes are fed, as `fed` says
 pub returns-clause-fed : goal.returns-clause-fed
 returns-clause-fed c taken =
     rw c.requires.idle (fed c.args.bytes.now c.args.dest.now c.copy_window-zeros.new.dest c.if-len-lt2.false c.requires.few c.requires.nonzero

@@ -9,6 +9,7 @@ use Rattle.cobs.proofs.streaming.SpanLemmas.{FeedsQuietly-more}
 use Rattle.cobs.proofs.dec.unbuffered.UnbufferedDecoder.take_in_place.Goals as goal
 use Rattle.cobs_bytes.proofs.bytes.ListLemmas.{part-nonzero}
 
+-- no byte from index `at` to index `end` is a zero, neither before the call nor now
 pub take_part_in_place-at-requires-clause-nonzero : goal.take_part_in_place-at-requires-clause-nonzero
 take_part_in_place-at-requires-clause-nonzero c =
     let a = c.args in
@@ -16,6 +17,7 @@ take_part_in_place-at-requires-clause-nonzero c =
     subst (λ (l : List ℕ). HasNoZero (take (a.end - c.by_step.at) l)) (sym (rest_read a.buffer.now c.by_step.buffer a.self.now c.by_step.self a.read c.by_step.at a.end i.started i.within c.requires.nonzero i.fed i.behind))
     (part-nonzero (c.by_step.at - a.read) (a.end - c.by_step.at) (a.end - a.read) (drop a.read a.buffer.now) c.requires.nonzero (omega arith))
 
+-- the bytes of this step are fed after those of the steps so far
 pub by_step-preserved : goal.by_step-preserved
 by_step-preserved c =
     let a = c.args in
@@ -24,6 +26,7 @@ by_step-preserved c =
     let n : ℕ = c.take_part_in_place-at.result in
     let bytes : List ℕ = drop a.read a.buffer.now in
     let new = c.take_part_in_place-at.new in
+    -- the step gets the bytes as they were before the call
     let more : FeedsQuietly c.by_step.buffer (phase_of c.by_step.self) (take n (drop (c.by_step.at - a.read) bytes)) new.buffer (phase_of new.self)
     = subst (λ (l : List ℕ). FeedsQuietly c.by_step.buffer (phase_of c.by_step.self) (take n l) new.buffer (phase_of new.self))
     (rest_read a.buffer.now c.by_step.buffer a.self.now c.by_step.self a.read c.by_step.at a.end i.started i.within c.requires.nonzero i.fed i.behind) e.fed in

@@ -1,4 +1,5 @@
--- The bytes from `read` to `at` are fed, and their output ends before the next byte that is read.
+-- The bytes from index `read` to index `at` are fed (`fed`), and their output ends before the next byte that is read
+-- (`behind`, `joint`): a step needs this so that it doesn't overwrite bytes that aren't read yet.
 use Rattle.std.proofs.Common.{◌≡◌, ◌≢◌, ◌<◌, ◌≤◌, ◌-◌, take, drop}
 use Rattle.cobs.specs.Fields.Decoders.{phase_of}
 use Rattle.cobs.specs.Internal.FeedsQuietly.{FeedsQuietly}
@@ -11,6 +12,7 @@ invariant-by_step l = record {
   started : l.read ≤ l.at;
   within : l.at ≤ l.end;
   behind : l.self.written ≤ l.at;
+  -- if the next code adds a zero, there is room for the zero too
   joint : l.self.joint ≢ 0 → l.self.written < l.at;
 }
 

@@ -1,12 +1,14 @@
 -- Bytes that were moved after the output are fed. If all of them belong to the open block, they stay as they are
--- (`kept`). Otherwise a zero is written over each code (`marked`).
+-- (`kept`). Otherwise `write_zeros_at_codes` writes a zero over each code among them (`marked`).
 use Rattle.std.proofs.Common.{arith}
 use Rattle.cobs.proofs.streaming.SpanLemmas.{joint-is, kept, marked}
 use Rattle.cobs.proofs.dec.unbuffered.UnbufferedDecoder.take_moved.Goals as goal
 
+-- all bytes belong to the open block
 pub returns-then-len-missing-clause-fed : goal.returns-then-len-missing-clause-fed
 returns-then-len-missing-clause-fed c before xs room long is = grind (arith, kept)
 
+-- a code is among the bytes; `settle` makes the last code's block the open block (j)
 pub returns-clause-fed : goal.returns-clause-fed
 returns-clause-fed c before xs room long is =
     let j = c.settle.ensures in

@@ -1,5 +1,5 @@
--- The first n bytes were copied after the output (`copied_put`), so they are there (`copied-there`), as `take_copied`
--- requires.
+-- The first n bytes were copied after the output, XORed with the sentinel (`put`). So they are there (`there`), as
+-- `take_copied` requires, and `take_copied` feeds them.
 use Rattle.std.proofs.Common.{◌≡◌, ◌≢◌, ◌≤◌, ◌+◌, ◌-◌, ◌++◌, List, ℕ, bit_xor, length, take, drop, sym, subst, arith, length-take-le}
 use Rattle.std.proofs.lemmas.List.{length-map}
 use Rattle.std.proofs.lemmas.List.Elements.{All-take}
@@ -10,21 +10,26 @@ use Rattle.cobs.proofs.format.SentinelLemmas.{front_xored}
 use Rattle.cobs.proofs.streaming.SpanLemmas.{copied_put, copied-there}
 use Rattle.cobs.proofs.dec.unbuffered.UnbufferedDecoder.take_span.Goals as goal
 
--- the first n bytes, copied to the end of the output
+-- the first n bytes were copied to index `at` of `dest`, each XORed with s; `ys` are the bytes of `dest` from index
+-- `at` on after the copy
 module _ (bytes dest ys : List ℕ) (s n at : ℕ) (within : n ≤ length bytes) (room : at + n ≤ length dest)
     (copied : ys ≡ xor_each s (take n bytes) ++ drop (length (take n bytes)) (take (length dest - at) (drop at dest))) where
+  -- the first n bytes, XORed
   abbrev xs : List ℕ
   xs = take n (xor_each s bytes)
 
   long : length xs ≡ n
   long = grind (arith, length-take-le, length-map, bit_xor)
 
+  -- `dest` after the copy
   put : put_mid at (length dest - at) dest ys ≡ take at dest ++ (xs ++ drop (at + n) dest)
   put = grind (arith, copied_put, xs, front_xored, length-take-le)
 
+  -- the copied bytes are at index `at`
   there : take (length (take n bytes)) (drop at (put_mid at (length dest - at) dest ys)) ≡ xor_each s (take n bytes)
   there = grind (arith, length-take-le, copied-there, xs, long, put, front_xored)
 
+  -- none of the copied bytes is a zero
   nonzero : HasNoZero (xor_each s bytes) → HasNoZero (xor_each s (take n bytes))
   nonzero nz = subst HasNoZero (sym (front_xored bytes s n)) (All-take (λ b. b ≢ 0) n (xor_each s bytes) nz)
 
@@ -35,6 +40,7 @@ pub take_copied-requires-clause-nonzero : goal.take_copied-requires-clause-nonze
 take_copied-requires-clause-nonzero c =
     nonzero c.args.bytes.now c.args.dest.now _ c.args.sentinel c.span_len-len.result c.args.self.now.written (omega arith) (omega arith) c.copy_xored.ensures c.requires.nonzero
 
+-- `take_copied` feeds the n bytes
 pub returns-clause-fed : goal.returns-clause-fed
 returns-clause-fed c =
     let bytes : List ℕ = c.args.bytes.now in
