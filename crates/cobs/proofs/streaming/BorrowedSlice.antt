@@ -73,6 +73,7 @@ head_of (τ ∷ τs) = τ
 -- the body of both methods, as the compiler sees it
 abbrev lending : Fn
 lending =
+    -- D is the type of a decoder
     let D = head_of (S.the_row (record { mir = erased; lft = [] })).mir in
     record {
       -- lifetime 0 is that of the loan; lifetime 1 is 'a, and outlives it
@@ -97,6 +98,7 @@ stayed = (stay_dropped (RefMutOf (0 ∷ []) tt (plain (λ κs. S.the_row (named_
 
 -- in any model of the logic, with the tables of the machine that runs the body
 module _ {M : Type 1} (𝓤 : Ura M) (𝓛 : Logic 𝓤) (𝓜 : Model 𝓤 𝓛.H) (𝓡 : Running 𝓤 𝓛.H 𝓜) where
+  -- the tables of this machine
   abbrev 𝓣 : MachineTables 𝓤 𝓛.H 𝓜
   𝓣 = tables 𝓤 𝓛.H 𝓜 𝓡 𝓡.env
 

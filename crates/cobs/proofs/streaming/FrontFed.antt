@@ -46,6 +46,7 @@ module _ {source old new : List ℕ} {phase : Phase} {run : ℕ} (f : FrontFed s
     pub whole : Quiet old new phase (head source)
     whole = rw all at front
 
+    -- the number of bytes that were fed is the length of the piece
     pub whole-count : run ≡ length (head source)
     whole-count = grind (arith, length-take-le, all)
 

@@ -40,6 +40,7 @@ ended_pieces-zero t = grind (arith, ended_pieces-append, stretches-piece, unende
 -- one more nonzero byte ends no piece
 pub ended_pieces-nonzero : (t : List ℕ) (b : ℕ) → b ≢ 0 → ended_pieces (t ++ b ∷ []) ≡ ended_pieces t
 ended_pieces-nonzero t b h =
+    -- the new byte joins the unended bytes, and none of these is a zero
     let none = rw (unended-push t b, fed-nonzero (unended t) b h) at (unended_no_zero (t ++ b ∷ [])) in
     grind (arith, ended_pieces-append, ended_pieces-no_zero, append-nil)
 

@@ -96,6 +96,7 @@ module _ {buffer₀ buffer buffer' : List ℕ} {phase₀ phase phase' : Phase} {
       → ((p : List ℕ) → DecoderAfter buffer₀ phase₀ p → reported_by (get_or bytes i 0) result buffer' ≡ pushed_outcomes bytes r buffer')
       → IfOk r (λ found. IfSome found (λ report. frame_size_of report ≤ length buffer₀)) → PushesBytes buffer₀ phase₀ bytes r buffer' phase'
   ended r count last outcomes bound = let takes = takes_behind bytes i within s.piece f in record {
+    -- each byte before this one returned `Ok(None)`, and this one returns `result`
     push_returns = grind (arith, ends_at, result_here);
     phased = grind arith;
     after = grind arith;

@@ -250,6 +250,7 @@ pub ReadsNext-kept : {S : Type 0} (step : S → Read → S → Type 0) (source :
     → ReadsNext step source source reader (Ok next) reader'
 ReadsNext-kept step source reader reader' next h idle = record {
   reads = [];
+  -- without a read, the source doesn't change
   runs = refl;
   -- the result isn't `Err(Io)`, and there is no last read
   failed = (λ f. absurd cc, λ l. absurd (omega (arith, ap length l.1, length_push l.0 None)));

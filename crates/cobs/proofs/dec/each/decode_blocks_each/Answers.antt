@@ -96,9 +96,11 @@ moved : (c : Joined-read-next) → let code = get_or c.by_block.buffer c.by_bloc
 moved c =
     let i = c.by_block.invariant in
     elim c.if-read-next.branch [
+      -- the loop moved the bytes of the block; this is its last byte
       | goal.then-read-next+then-read-next-2 w ↦ (let s = w.by_byte.invariant in
           let last = byte-moved _ _ c.requires.within _ _ s.left s.order s.inside (omega (arith, c.if-end-read.false)) in
           grind arith)
+      -- the block has no byte after its code
       | goal.else-read-next w ↦ (let begun = block-begun _ _ c.requires.within _ i.left i.order c.by_block-test.true c.if-end-read.false in
           grind arith)
     ]

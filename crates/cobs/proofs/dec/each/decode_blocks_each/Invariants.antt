@@ -14,6 +14,7 @@ invariant-by_block l =
       left : Left h l.fn.buffer l.buffer l.written (drop l.read h);
     }
 
+-- each block lowers the number of bytes to read
 abbrev pub decreases-by_block : goal.decreases-by_block
 decreases-by_block l = l.end - l.read
 
@@ -22,11 +23,13 @@ abbrev pub invariant-by_byte : goal.invariant-by_byte
 invariant-by_byte l =
     let h = take l.end l.fn.buffer in
     record {
+      -- the loop doesn't go back before the index at which it began
       from : l.initial.read ≤ l.read;
       order : l.written < l.read;
       inside : l.read < l.next;
       left : BlockLeft h l.fn.buffer l.buffer l.written (take (l.next - l.read) (drop l.read h)) l.code (drop l.next h);
     }
 
+-- each byte lowers the number of bytes to read in the block
 abbrev pub decreases-by_byte : goal.decreases-by_byte
 decreases-by_byte l = l.next - l.read

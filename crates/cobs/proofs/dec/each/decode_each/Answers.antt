@@ -1,4 +1,5 @@
--- An empty source has no piece (`first_piece_empty`), and the buffer stays as it is.
+-- An empty source has no piece (`first_piece_empty`), and the buffer stays as it is. The tactics prove all other goals,
+-- from the contract of `decode_piece`.
 use Rattle.std.proofs.Common.{arith}
 use Rattle.std.proofs.lemmas.Bool.{eqb-true}
 use Rattle.cobs.proofs.decoding.HeadLemmas.{first_piece_empty}

@@ -10,6 +10,7 @@ use Rattle.cobs.proofs.dec.each.decode_head_each.Given as goal
 abbrev pub invariant-by_block : goal.invariant-by_block
 invariant-by_block l = Left (head (xor_each l.sentinel l.source)) l.fn.dest l.dest l.written (xor_each l.sentinel l.rest)
 
+-- each block lowers the number of bytes to read
 abbrev pub decreases-by_block : goal.decreases-by_block
 decreases-by_block l = length l.rest
 

@@ -6,12 +6,14 @@ use Rattle.cobs.proofs.decoding.HeadLemmas.{front_is_head}
 use Rattle.cobs.proofs.decoding.OutcomeSteps.{in_place_report-rejected, in_place_report-decoded}
 use Rattle.cobs.proofs.dec.each.decode_in_place_each.Goals as goal
 
+-- the frame is broken, so the result is an error
 pub returns-in_err-frame_size-clause-returned : goal.returns-in_err-frame_size-clause-returned
 returns-in_err-frame_size-clause-returned c = grind (arith, front_is_head, in_place_report-rejected)
 
 pub returns-in_err-frame_size-clause-buffer : goal.returns-in_err-frame_size-clause-buffer
 returns-in_err-frame_size-clause-buffer c = grind (arith, front_is_head)
 
+-- the frame is whole, so the result is a report
 pub returns-clause-returned : goal.returns-clause-returned
 returns-clause-returned c = grind (arith, front_is_head, in_place_report-decoded, length-take-le)
 

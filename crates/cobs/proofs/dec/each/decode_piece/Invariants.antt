@@ -7,5 +7,6 @@ use Rattle.cobs.proofs.dec.each.decode_piece.Given as goal
 abbrev pub invariant-by_byte : goal.invariant-by_byte
 invariant-by_byte l = IsRead l.source l.fn.dest l.at l.dest (eqb l.code 255) l.left l.written
 
+-- each iteration reads a byte
 abbrev pub decreases-by_byte : goal.decreases-by_byte
 decreases-by_byte l = length l.source - l.at

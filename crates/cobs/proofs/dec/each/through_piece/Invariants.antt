@@ -10,5 +10,6 @@ invariant-by_byte l = record {
   before : HasNoZero (take (l.end - l.at) (drop l.at l.source));
 }
 
+-- each iteration passes a byte
 abbrev pub decreases-by_byte : goal.decreases-by_byte
 decreases-by_byte l = length l.source - l.end

@@ -22,6 +22,7 @@ returns-clause-reads c found m r =
     let same = (decoded_reads c.args.source.now (bytes_below _ c.type_inv.source) m (frame_piece r)).1 r in
     cc
 
+-- if the message is m, and the source may be a frame, it is a frame of m
 pub returns-clause-only : goal.returns-clause-only
 returns-clause-only c piece m same = grind (arith, decoded_reads, bytes_below, returns-clause-message)
 
@@ -32,9 +33,11 @@ returns-in_err-report c =
     let is : (error : DecodeError) × (c.decode.result ≡ Err error) × (c.from_residual-in_err-report.result ≡ Err (Decode error)) = search rules in
     let no = decoded-rejected c.args.source.now (length c.deref_mut.result.now) (search rules) is.0 some (sym is.1 ∙ c.decode.ensures.answer) in
     rw is.2 (record {
+      -- the clause `message` says nothing about an error
       message = tt;
       refused = no.0;
       empty = λ none. absurd (omega (arith, ap length none));
+      -- the error isn't `TargetBufTooSmall`
       room = λ same. no.1 (cc);
       -- the source isn't a frame, because a frame has no error
       reads = λ found m r. absurd (let rejected = no.0 in let same = (decoded_reads c.args.source.now (bytes_below _ c.type_inv.source) m (frame_piece r)).1 r in cc);

@@ -24,6 +24,7 @@ returns-clause-reads c found m r =
     let same = (decoded_head_reads _ (xored_below _ _ c.ranges.sentinel.fits c.type_inv.source) m (frame_piece r)).1 r in
     cc
 
+-- if the message is m, and the XORed source may be a frame, it is a frame of m
 pub returns-clause-only : goal.returns-clause-only
 returns-clause-only c piece m same = grind (arith, decoded_head_reads, xored_below, returns-clause-message)
 
@@ -36,9 +37,11 @@ returns-in_err-len c =
     let changed = length-map c.args.source.now (λ (b : ℕ). bit_xor b c.args.sentinel) in
     let no = decoded_head-rejected (xor_each c.args.sentinel c.args.source.now) _ (long ∙ sym changed) is.0 (omega arith) (sym is.1 ∙ c.decode_with_sentinel.ensures.answer) in
     rw is.2 (record {
+      -- the clause `message` says nothing about an error
       message = tt;
       refused = no.0;
       empty = λ none. absurd (omega (arith, ap length none));
+      -- the error isn't `TargetBufTooSmall`
       room = λ same. no.1 (cc);
       -- the XORed source isn't a frame, because a frame has no error
       reads = λ found m r. absurd (let rejected = no.0 in let same = (decoded_head_reads _ (xored_below _ _ c.ranges.sentinel.fits c.type_inv.source) m (frame_piece r)).1 r in cc);

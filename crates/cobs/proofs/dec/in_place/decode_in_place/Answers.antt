@@ -3,12 +3,15 @@
 use Rattle.std.proofs.Common.{arith}
 use Rattle.cobs.proofs.dec.in_place.decode_in_place.Goals as goal
 
+-- `decode_in_place_report` returned an error, so the buffer isn't a frame
 pub returns-in_err-decode_in_place_report-clause-reads : goal.returns-in_err-decode_in_place_report-clause-reads
 returns-in_err-decode_in_place_report-clause-reads c m r = let stated = c.decode_in_place_report.ensures.reads m r in grind arith
 
+-- and an error isn't a message
 pub returns-in_err-decode_in_place_report-clause-only : goal.returns-in_err-decode_in_place_report-clause-only
 returns-in_err-decode_in_place_report-clause-only c piece m stated = grind arith
 
+-- `decode_in_place_report` returned a report with the length of the message
 pub returns-clause-reads : goal.returns-clause-reads
 returns-clause-reads c m r = let stated = c.decode_in_place_report.ensures.reads m r in grind arith
 

@@ -8,6 +8,7 @@ use Rattle.cobs.proofs.decoding.OutcomeLemmas.{head_nonzero, length-head}
 use Rattle.cobs.proofs.decoding.OutcomeSteps.{in_place_report-decoded}
 use Rattle.cobs.proofs.dec.in_place.decode_short_in_place.Goals as goal
 
+-- the frame is decoded, and the report has its lengths
 pub returns-clause-returned : goal.returns-clause-returned
 returns-clause-returned c = grind (arith, front_is_head, in_place_report-decoded, length-take-le)
 

@@ -66,6 +66,7 @@ module _ {old moved : List ℕ} {len : ℕ} (m : Moved old moved len) where
     piece : (ys ≡ output (take len old)) × (left ≡ missing (last_part (take len old)))
     piece = rw frame-is (as_piece _ _ (rw front at w) (omega (arith, long)) nonzero)
 
+    -- with a zero over each code, there are as many bytes
     ys-long : length ys ≡ len - 1
     ys-long = grind (arith, length-walked, front, long)
 
@@ -113,6 +114,7 @@ returns-then-left-ne0-clause-kept c _ =
     let copied = front-is c.args.buffer.now _ _ c.args.len m.some m.most m.within (c.if-not-copy_xored_short.ensures.copied refl) in
     put_back m c.write_zeros_at_codes-left.ensures _ (c.copy_from_slice.ensures.after ∙ copied)
 
+-- the frame is decoded; the following goals are its clauses
 pub returns-clause-nonzero : goal.returns-clause-nonzero
 returns-clause-nonzero c _ = frame-nonzero (moved (goal.at.returns-clause-nonzero c).After-move_to_front)
 

@@ -7,5 +7,6 @@ use Rattle.cobs.proofs.dec.kind.kind_by_blocks.Given as goal
 abbrev pub invariant-by_block : goal.invariant-by_block
 invariant-by_block l = (l.read ≤ length l.bytes) × BlocksBehind l.bytes (drop l.read l.bytes) l.after_full
 
+-- each block lowers the number of bytes to read
 abbrev pub decreases-by_block : goal.decreases-by_block
 decreases-by_block l = length l.bytes - l.read

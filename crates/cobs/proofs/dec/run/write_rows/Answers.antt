@@ -5,6 +5,7 @@ use Rattle.std.proofs.lemmas.List.{length-replicate, replicate-append-replicate}
 use Rattle.cobs.proofs.dec.run.write_rows.Goals as goal
 use Rattle.cobs_bytes.proofs.bytes.ListLemmas.{three-next}
 
+-- one more row is written: its 32 codes are 32 more bytes that equal `byte`
 pub by_row-preserved : goal.by_row-preserved
 by_row-preserved c =
     let i = c.by_row.invariant in

@@ -10,5 +10,6 @@ invariant-by_row l = record {
   written : l.dest ≡ take l.at l.fn.dest ++ (replicate l.len 0 ++ drop (l.at + l.len) l.fn.dest);
 }
 
+-- each row lowers the number of zeros that may still be written
 abbrev pub decreases-by_row : goal.decreases-by_row
 decreases-by_row l = l.most - l.len

@@ -12,6 +12,7 @@ use Rattle.cobs.proofs.dec.span.+write_zeros_at_copied.Goals as goal
 
 -- `dest` has the bytes of `copied`, each XORed with the sentinel s
 module _ (copied dest : List ℕ) (s : ℕ) (is : dest ≡ xor_each s copied) where
+  -- the XOR with s doesn't change the number of bytes
   long : length dest ≡ length copied
   long = grind (arith, length-map, bit_xor)
 

@@ -52,8 +52,10 @@ module _ (c : goal.After-slice_known-3-1) where
 pub returns-clause-len : goal.returns-clause-len
 returns-clause-len c = grind (arith, decoded, length-walked, long)
 
+-- the returned number is that of the missing bytes of the last block
 pub returns-clause-left : goal.returns-clause-left
 returns-clause-left c = (decoded c).1
 
+-- `dest` begins with the output
 pub returns-clause-begins : goal.returns-clause-begins
 returns-clause-begins c = grind (arith, long, take-append_seam, decoded)

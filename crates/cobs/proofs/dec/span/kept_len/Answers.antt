@@ -30,6 +30,7 @@ module _ (bytes : List ℕ) (s at : ℕ) (here : at < length bytes) (h : List �
   code-is : code ≡ get_or h (start + at) 0
   code-is = grind (arith, coded, get_or-drop)
 
+  -- the length of the piece
   long : length h ≡ start + length bytes
   long = omega (arith, length-drop start h, ap length is, length-map bytes (λ b. bit_xor b s))
 

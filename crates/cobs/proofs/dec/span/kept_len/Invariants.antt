@@ -12,5 +12,6 @@ invariant-by_block l = record {
       → missing (last_part (take (start + l.at) h)) ≡ 0;
 }
 
+-- each iteration passes at least one byte
 abbrev pub decreases-by_block : goal.decreases-by_block
 decreases-by_block l = length l.bytes - l.at

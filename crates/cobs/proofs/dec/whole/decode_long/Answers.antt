@@ -97,6 +97,7 @@ returns-clause-returned c =
     let w = decoded at end in
     -- the decoder's numbers are the length of the output and the number of missing bytes
     let counts = quiet-at _ _ _ _ w c.take_run-len.new.self refl in
+    -- the result is the report with the result of `message_len` (m)
     let is : c.map.result ≡ report_result c.min-parsed_size.result c.message_len-result.result = search rules in
     let m = c.message_len-result.ensures in
     is ∙ answer-by _ _ _ _ _ _ (omega arith) (found at) (omega arith)

@@ -59,6 +59,7 @@ module _ (c : goal.After-map) where
   found : first_piece source ≡ Some (head source)
   found = grind (arith, first_piece_nonzero, source, long, first)
 
+  -- the piece has `len` bytes
   head-len : length (head source) ≡ len
   head-len = ap length (sym is ∙ same) ∙ long
 
@@ -77,5 +78,6 @@ returns-clause-returned c =
     (result-by (p c) _ _ _ _ (omega (arith, e.some, ap length (same c))) (omega (arith, e.room)) (omega (arith, e.len, long c)) e.left c.message_len.ensures.whole c.message_len.ensures.broken))
     (always _ (sym (long c) ∙ sym (ap length (same c)) ∙ ap length (is c)))
 
+-- the output of p is written to the front of the buffer
 pub returns-clause-buffer : goal.returns-clause-buffer
 returns-clause-buffer c = grind (arith, overwritten-front, p, len, source, is, found)

@@ -19,6 +19,7 @@ module _ (bytes : List ℕ) (s i : ℕ) (within : i < length bytes) where
   coded : get_or (xor_each s bytes) i 0 ≡ bit_xor (get_or bytes i 0) s
   coded = grind (arith, get_or-map)
 
+  -- index i is within the XORed bytes too
   inside : i < length (xor_each s bytes)
   inside = omega (arith, length-map bytes (λ b. bit_xor b s))
 
@@ -34,6 +35,7 @@ module _ (bytes : List ℕ) (s i : ℕ) (within : i < length bytes) where
         → (end : PieceEnd) → end_reported result ≡ Some end → TakesPiece old first (xor_each s bytes) (Some (end, i + 1)) buffer' phase'
     ended zero fed end is = piece-ended _ _ inside so_far (rw (coded, zero) fed) end (coded ∙ zero) is
 
+-- before the first byte
 pub by_byte-init : goal.by_byte-init
 by_byte-init c = piece-nothing _ _
 

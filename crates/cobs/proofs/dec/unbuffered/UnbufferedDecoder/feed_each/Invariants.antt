@@ -11,6 +11,7 @@ use Rattle.cobs.proofs.dec.unbuffered.UnbufferedDecoder.feed_each.Given as goal
 abbrev pub invariant-by_byte : goal.invariant-by_byte
 invariant-by_byte l = TakesPiece l.fn.dest (phase_of l.fn.self) (take l.taken (xor_each l.sentinel l.bytes)) None l.dest (phase_of l.here)
 
+-- each iteration takes a byte
 abbrev pub decreases-by_byte : goal.decreases-by_byte
 decreases-by_byte l = length l.bytes - l.taken
 
@@ -21,5 +22,6 @@ invariant-to_end l = record {
   overlong : l.taken < length l.bytes → phase_of l.here ≡ Overlong;
 }
 
+-- each iteration takes a byte
 abbrev pub decreases-to_end : goal.decreases-to_end
 decreases-to_end l = length l.bytes - l.taken

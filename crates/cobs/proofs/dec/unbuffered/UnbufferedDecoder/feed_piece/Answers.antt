@@ -55,6 +55,7 @@ pub returns-then-take_front : goal.returns-then-take_front
 returns-then-take_front c =
     let bytes : List ℕ = c.args.bytes.now in
     let len : ℕ = c.front_len-front.result in
+    -- the phase after these bytes, before the zero
     let between : Phase = phase_of c.take_front.new.self in
     let within : len < length bytes = omega (arith, c.front_len-front.ensures.within) in
     let zero = c.front_len-front.ensures.stop within in
@@ -98,6 +99,7 @@ returns c =
     let same = kept (goal.at.returns c).Joined-bytes-gt-VERY_FEW in
     let bytes : List ℕ = c.args.bytes.now in
     let taken : ℕ = c.take_to_end-taken.result in
+    -- the buffer and the phase after these bytes, before the zero
     let buffer : List ℕ = c.take_to_end-taken.new.dest in
     let between : Phase = phase_of c.take_to_end-taken.new.self in
     let within : taken < length bytes = omega (arith, c.take_to_end-taken.ensures.within) in

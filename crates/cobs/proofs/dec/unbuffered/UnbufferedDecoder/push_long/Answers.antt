@@ -8,6 +8,7 @@ use Rattle.std.proofs.lemmas.List.{take_rest}
 use Rattle.cobs.proofs.dec.unbuffered.UnbufferedDecoder.push_long.Goals as goal
 use Rattle.cobs.proofs.dec.unbuffered.UnbufferedDecoder.push_long.Goals.{After-take_at_once-at}
 
+-- before the first byte
 pub by_run-init : goal.by_run-init
 by_run-init c = record { within = omega arith; pushed = Pushed-start _ _ _ }
 

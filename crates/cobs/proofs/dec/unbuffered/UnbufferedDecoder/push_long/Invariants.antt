@@ -11,5 +11,6 @@ invariant-by_run l = record {
   pushed : Pushed l.fn.dest (phase_of l.fn.self) l.dest (phase_of l.self) l.bytes l.at;
 }
 
+-- each iteration feeds at least one byte
 abbrev pub decreases-by_run : goal.decreases-by_run
 decreases-by_run l = length l.bytes - l.at

@@ -4,10 +4,11 @@ use Rattle.std.proofs.Common.{arith, length}
 use Rattle.cobs.proofs.streaming.SpanLemmas.{joint-is, kept, marked}
 use Rattle.cobs.proofs.dec.unbuffered.UnbufferedDecoder.take_copied.Goals as goal
 
--- the part of the buffer after the output has the copied bytes, and no zero, as `write_zeros_at_copied` requires
+-- the part of the buffer after the output has the copied bytes, XORed, as `write_zeros_at_copied` requires
 pub write_zeros_at_copied-requires-clause-copied : goal.write_zeros_at_copied-requires-clause-copied
 write_zeros_at_copied-requires-clause-copied c = grind arith
 
+-- none of these bytes, nor the code `missing + 1` before them, is a zero
 pub write_zeros_at_copied-requires-clause-nonzero : goal.write_zeros_at_copied-requires-clause-nonzero
 write_zeros_at_copied-requires-clause-nonzero c = grind arith
 

@@ -59,7 +59,8 @@ module _ (bytes dest copied : List ℕ) (some : 1 < length bytes) (few : length 
       = rw (due, long) (phase_with-begun (eqb code 255) left (length bytes - 1) (omega (arith, some))) in
       rw (phase, ← buffer) (subst (λ xs. FeedsQuietly dest Idle xs (over 0 dest ys) (Within (eqb code 255) left (length codes))) (sym are) f)
 
--- the front of the buffer has the bytes after the first code, and no zero, as `write_zeros_at_copied` requires
+-- the front of the buffer has the bytes after the first code, as `write_zeros_at_copied` requires; the XOR with 0
+-- changes nothing
 pub write_zeros_at_copied-code-requires-clause-copied : goal.write_zeros_at_copied-code-requires-clause-copied
 write_zeros_at_copied-code-requires-clause-copied c =
     let bytes : List ℕ = c.args.bytes.now in
@@ -67,6 +68,7 @@ write_zeros_at_copied-code-requires-clause-copied c =
     (front-is bytes c.args.dest.now c.copy_window-zeros.new.dest c.if-len-lt2.false c.requires.few c.requires.nonzero
     c.copy_window-zeros.ensures.copied ∙ sym (take_rest bytes 1))
 
+-- none of these bytes, nor the first code, is a zero
 pub write_zeros_at_copied-code-requires-clause-nonzero : goal.write_zeros_at_copied-code-requires-clause-nonzero
 write_zeros_at_copied-code-requires-clause-nonzero c =
     let bytes : List ℕ = c.args.bytes.now in

@@ -16,5 +16,6 @@ invariant-by_step l = record {
   joint : l.self.joint ≢ 0 → l.self.written < l.at;
 }
 
+-- each step takes at least one byte
 abbrev pub decreases-by_step : goal.decreases-by_step
 decreases-by_step l = l.end - l.at

@@ -33,9 +33,11 @@ module _ (bytes dest ys : List ℕ) (s n at : ℕ) (within : n ≤ length bytes)
   nonzero : HasNoZero (xor_each s bytes) → HasNoZero (xor_each s (take n bytes))
   nonzero nz = subst HasNoZero (sym (front_xored bytes s n)) (All-take (λ b. b ≢ 0) n (xor_each s bytes) nz)
 
+-- the bytes after the output are the copied bytes
 pub take_copied-requires-clause-copied : goal.take_copied-requires-clause-copied
 take_copied-requires-clause-copied c = grind (arith, there)
 
+-- none of the copied bytes is a zero
 pub take_copied-requires-clause-nonzero : goal.take_copied-requires-clause-nonzero
 take_copied-requires-clause-nonzero c =
     nonzero c.args.bytes.now c.args.dest.now _ c.args.sentinel c.span_len-len.result c.args.self.now.written (omega arith) (omega arith) c.copy_xored.ensures c.requires.nonzero

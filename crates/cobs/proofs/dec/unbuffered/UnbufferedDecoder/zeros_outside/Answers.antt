@@ -6,8 +6,10 @@ use Rattle.cobs.proofs.decoding.HeadLemmas.{leading_zeros-stop}
 use Rattle.cobs.proofs.streaming.OpenLemmas.{quiet-zeros}
 use Rattle.cobs.proofs.dec.unbuffered.UnbufferedDecoder.zeros_outside.Goals as goal
 
+-- an idle decoder takes the leading zeros quietly
 pub returns-then-is_idle-clause-quiet : goal.returns-then-is_idle-clause-quiet
 returns-then-is_idle-clause-quiet c buffer = rw (c.if-is_idle.ensures.idle.0 refl) (quiet-zeros buffer c.args.bytes.now _ (omega (arith, c.leading_zeros.ensures.count)))
 
+-- the byte after the leading zeros isn't a zero
 pub returns-then-is_idle-clause-next : goal.returns-then-is_idle-clause-next
 returns-then-is_idle-clause-next c idle within = grind (arith, leading_zeros-stop, get_or-drop, c.leading_zeros.ensures.count)
