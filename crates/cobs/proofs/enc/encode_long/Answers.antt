@@ -5,6 +5,7 @@ use Rattle.std.proofs.lemmas.Grind.{common_steps}
 use Rattle.cobs.proofs.encoding.TakingLemmas.{all-rest, start-after, start-len}
 use Rattle.cobs.proofs.enc.encode_long.Goals as goal
 
+-- the frame of the empty message is the lone block
 pub returns-then-is_empty-clause-frame : goal.returns-then-is_empty-clause-frame
 returns-then-is_empty-clause-frame c =
     let none : c.args.source.now ≡ [] = grind (arith, common_steps) in

@@ -7,6 +7,7 @@ use Rattle.cobs.proofs.enc.try_encode_any.Goals as goal
 
 pub returns-clause-frame : goal.returns-clause-frame
 returns-clause-frame c =
+    -- a frame has at least one byte, so the slice isn't empty
     let some : 0 < length c.args.dest.now = grind arith in
     c.close.ensures.frame c.args.source.now (start-after c.args.dest.now _ c.new-encoder.ensures.start some (c.try_append.ensures.taken cc))
 

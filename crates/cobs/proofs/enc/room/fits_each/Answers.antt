@@ -5,12 +5,15 @@ use Rattle.cobs.specs.Length.{open_len}
 use Rattle.cobs.proofs.encoding.OpenLenLemmas.{len-full, len-end, len-byte, len-zero}
 use Rattle.cobs.proofs.enc.room.fits_each.Goals as goal
 
+-- a full block needs a spare byte, and no spare byte is left, so the frame doesn't fit
 pub returns-then-left-eq0 : goal.returns-then-left-eq0
 returns-then-left-eq0 c = grind (arith, len-full, length-drop)
 
+-- all bytes are counted, and spare bytes are left, so the frame fits
 pub returns : goal.returns
 returns c = grind (arith, len-end)
 
+-- one more byte is counted
 pub by_byte-preserved : goal.by_byte-preserved
 by_byte-preserved c =
     let next = c.by_byte-test.true in

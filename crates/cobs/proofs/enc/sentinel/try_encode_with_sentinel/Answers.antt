@@ -10,5 +10,6 @@ returns-clause-frame c = grind (arith, length-take-le, take_at, xor_each-twice)
 pub returns-clause-no_sentinel : goal.returns-clause-no_sentinel
 returns-clause-no_sentinel c = encoded_free c.args.sentinel _ (returns-clause-frame c)
 
+-- `encode_few` has written a frame for this sentinel
 pub returns-in-Some-clause-no_sentinel : goal.returns-in-Some-clause-no_sentinel
 returns-in-Some-clause-no_sentinel c = grind (arith, encoded_free)
