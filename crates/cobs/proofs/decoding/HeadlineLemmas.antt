@@ -95,8 +95,8 @@ module _ (f old : List ℕ) (result : Result DecodeReport DecodeError) (new : Li
 
 -- DECODING FROM A SOURCE FOR ANY SENTINEL
 
--- a piece has no zero, so it is its own head: for a piece, the result of `decode_with_sentinel` is the result for all its
--- bytes
+-- a piece has no zero, so it is its own head: for a piece, the result of `decode_with_sentinel` is the result for all
+-- its bytes
 result_of_sentinel_decode_alone : (f : List ℕ) (n : ℕ) → IsPiece f → result_of_sentinel_decode f n ≡ head_result_within f n
 result_of_sentinel_decode_alone [] n piece = grind arith
 result_of_sentinel_decode_alone (byte ∷ bytes) n piece = grind (arith, head_alone)

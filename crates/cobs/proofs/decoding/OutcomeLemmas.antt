@@ -1,6 +1,7 @@
--- The outcome of a piece follows from its output's length and from whether it is whole (`outcome_of_whole` and the lemmas after
--- it), and says as much of the piece (`outcome_says`): so it is `Message m` exactly if the piece is a frame of m that fits
--- (`outcome_message`). The first piece of a stream is the bytes before its first zero: std's `take_while`.
+-- The outcome of a piece follows from its output's length and from whether it is whole (`outcome_of_whole` and the
+-- lemmas after it), and says as much of the piece (`outcome_says`): so it is `Message m` exactly if the piece is a
+-- frame of m that fits (`outcome_message`). The first piece of a stream is the bytes before its first zero: std's
+-- `take_while`.
 use Rattle.std.proofs.Common.{◌≡◌, ◌≢◌, ℕ, ◌<◌, ◌≤◌, ◌↔◌, List, [], ◌∷◌, ◌++◌, length, All, Some, refl, ap, arith, length-append, length-drop, length-take, false, not, ◌==◌, inl, inr}
 use Rattle.std.specs.List.{position_or_len, take_while}
 use Rattle.std.proofs.lemmas.Bool.{cases_eq, ne_eqb, eq-eqb, leb-true, leb-false}

@@ -5,8 +5,8 @@ use Rattle.cobs.specs.Piece.{last_part, is_whole, missing, parts, parts_after, o
 use Rattle.cobs.proofs.format.FrameLemmas.{parts_after-drop, parts_after-past, last_of-cons, parts_after-some}
 use Rattle.std.proofs.lemmas.Bool.{cases_lt}
 
--- P holds for each piece if it holds for no bytes (`none`) and for a piece that is one part (`last`), and if it holds for a
--- longer piece when it holds for the bytes after the first part (`more`)
+-- P holds for each piece if it holds for no bytes (`none`) and for a piece that is one part (`last`), and if it holds
+-- for a longer piece when it holds for the bytes after the first part (`more`)
 module _ (P : List ℕ → Type 0) (none : P []) (last : (code : ℕ) (bytes : List ℕ) → length bytes ≤ code - 1 → P (code ∷ bytes))
     (more : (code : ℕ) (bytes : List ℕ) → code - 1 < length bytes → P (drop (code - 1) bytes) → P (code ∷ bytes)) where
   -- P holds for pieces of at most n bytes: by induction on n

@@ -1,5 +1,5 @@
--- A source for any sentinel is a source for 0 once each byte is XORed with it: the bytes before its first sentinel, and the
--- result for that, by `coded_nonzero`.
+-- A source for any sentinel is a source for 0 once each byte is XORed with it: the bytes before its first sentinel, and
+-- the result for that, by `coded_nonzero`.
 use Rattle.std.proofs.Common.{◌≡◌, ◌≢◌, ℕ, ◌<◌, ◌≤◌, All, List, [], ◌∷◌, length, take, get_or, bit_xor, Err, arith}
 use Rattle.std.specs.Int.Bits.{xor_self}
 use Rattle.std.proofs.lemmas.List.{get_or-map, length-map, take-map}

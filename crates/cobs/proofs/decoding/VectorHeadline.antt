@@ -25,6 +25,7 @@ decoded_head_alone : (f : List ℕ) → IsPiece f → decoded_head f ≡ cond (i
 decoded_head_alone [] piece = grind arith
 decoded_head_alone (byte ∷ bytes) piece = grind (arith, head_alone)
 
+-- f is a list of numbers below 256
 module _ (f : List ℕ) (below : All (λ b. b < 256) f) (m : List ℕ) where
   -- `decoded` of a piece is the message m exactly if the piece is a frame of m
   pub decoded_reads : IsPiece f → (decoded f ≡ Ok m) ↔ Reads f m

@@ -67,6 +67,7 @@ kept-result : (h : List ℕ) (whole : Bool) (n : ℕ) → whole_left h ≡ whole
 kept-result [] whole n w is = grind (arith, kept_output-empty)
 kept-result (byte ∷ h) whole n w is = grind (arith, cases_Bool, all-kept)
 
+-- the first `written` bytes of the kept output are in the buffer, and `left` is still to be written
 module _ {h old buffer : List ℕ} {written : ℕ} {left : List ℕ} (s : Written h old buffer written left) where
   -- the buffer keeps its length
   written-long : length buffer ≡ length old
@@ -125,6 +126,7 @@ pub record BlockLeft (h old buffer : List ℕ) (written : ℕ) (bytes : List ℕ
 pub left-all : (h old : List ℕ) → HasNoZero h → All (λ byte. byte < 256) h → Left h old old 0 h
 left-all h old nonzero below = grind arith
 
+-- the bytes p of the piece h are still to be decoded
 module _ {h old buffer p : List ℕ} {written : ℕ} (l : Left h old buffer written p) where
   -- the bytes of the buffer after the written ones are as they were
   pub left-behind : (k : ℕ) → written ≤ k → get_or buffer k 0 ≡ get_or old k 0

@@ -57,6 +57,7 @@ pub record CopiedWindow (s : Start) (slice : List ℕ) (read len index next zero
   pub copied : Copied s slice read len index next
   pub bits : zeros ≡ zero_mask (take len (drop read s.source))
 
+-- the window was copied, and no code is written over its zeros yet
 module _ {s : Start} {slice : List ℕ} {read len index next zeros : ℕ} (w : CopiedWindow s slice read len index next zeros) where
   -- if the window has a zero, its first zero is within the window
   pub first-within : zeros ≢ 0 → lowest zeros < len

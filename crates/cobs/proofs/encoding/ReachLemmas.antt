@@ -17,6 +17,7 @@ pub Reaches-at : {s : Start} {slice slice' : List ℕ} {pos pos' index index' ne
     → ((full : Bool) → P full → Q full) → Reaches s slice pos index next P → Reaches s slice' pos' index' next' Q
 Reaches-at s p i n weaker r = grind arith
 
+-- the first `pos` bytes of the source are encoded
 module _ {s : Start} {slice : List ℕ} {pos index next : ℕ} {P : Bool → Type 0} (r : Reaches s slice pos index next P) where
   -- each byte that is left of the source needs at least one byte before the end of the frame
   pub least : next + (length s.source - pos) ≤ whole_end s
@@ -35,6 +36,7 @@ module _ {s : Start} {slice : List ℕ} {pos index next : ℕ} {P : Bool → Typ
   pub Reaches-code : (x : ℕ) → Reaches s (set slice index x) pos index next P
   Reaches-code x = grind (arith, drop-set-lt, Opened-code)
 
+  -- the frame of the whole source fits the slice
   module _ {Q : Bool → Type 0} (fits : whole_end s ≤ length slice) where
     -- The next k bytes of the source, which aren't zeros and are already in the slice, join the open block. The last
     -- two premises say that the new property Q holds: it follows from P if k is 0, and otherwise the frame doesn't end
@@ -66,6 +68,7 @@ module _ {s : Start} {slice : List ℕ} {pos index next : ℕ} {P : Bool → Typ
             → (full : Bool) × Q full × Opened slice (m ++ take (pos + k) s.source) index (next + k) full
         by_count (inl is) m t = grind arith
         by_count (inr other) m t =
+            -- more than 0 bytes join the open block (`joined`); there is room for them (`least'`)
             let l = long in
             let least' = least in
             let joined = Opened-join t.2 bytes (grind arith) nonzero (omega arith) (omega arith) (rw l here) in
@@ -105,8 +108,8 @@ module _ {s : Start} {slice : List ℕ} {pos index next : ℕ} {P : Bool → Typ
   pub ends : pos ≡ length s.source → whole_end s ≡ next
   ends last = grind (arith, len-end)
 
--- The frame doesn't end in a full block (`ends_in_full`): the open block has a byte, or the block before it isn't full, or
--- there is no block before it. An open block with 254 bytes isn't closed yet, so it doesn't count as full here.
+-- The frame doesn't end in a full block (`ends_in_full`): the open block has a byte, or the block before it isn't full,
+-- or there is no block before it. An open block with 254 bytes isn't closed yet, so it doesn't count as full here.
 abbrev pub IsNotFull : Bool → Type 0
 IsNotFull full = full ≡ false
 

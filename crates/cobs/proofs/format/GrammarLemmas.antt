@@ -61,6 +61,7 @@ shorter_end ((c ∷ a) ∷ []) some each shorter = record {
   apart = λ full. cc;
 }
 shorter_end ((c ∷ a) ∷ d ∷ ds) some each shorter =
+    -- b is the first block, and r describes the last of the other blocks, which is the last of all blocks too
     let b : List ℕ = c ∷ a in
     let r = shorter_end (d ∷ ds) (λ e. cc) (All-tail IsBlock b (d ∷ ds) each) (IsShorter-tail b (d ∷ ds) shorter) in
     record {
@@ -138,7 +139,9 @@ module _ (block f : List ℕ) (is : IsBlock block) where
   -- the block and the bytes f are a frame exactly if f is a frame
   pub front-frame : f ≢ [] → IsFrame (block ++ f) ↔ IsFrame f
   front-frame some = (
+    -- if the block and f are a frame, f is a frame of its parts
     λ frame. (message_of (parts f), record { blocks = parts f; frame = rest-frame some frame.1.blocks frame.1.frame; message = refl }),
+    -- if f is a frame, the block can be put before it
     λ frame. (_, Reads-cons block f frame.0 is frame.1),
   )
 
@@ -147,13 +150,16 @@ module _ (block f : List ℕ) (is : IsBlock block) where
   pub front-canonical : f ≢ [] → IsCanonical (block ++ f) ↔ (IsCanonical f × (IsFull block → f ≢ lone_block))
   front-canonical some = (
     λ c. (
+      -- if the block and f are a canonical frame, f is one, because its blocks end in the same way
       record {
         blocks = parts f;
         frame = rest-frame some c.blocks c.frame;
         shorter = IsShorter-tail block (parts f) (grind (arith, blocks-are));
       },
+      -- if the block were full, and f were the lone block, the frame wouldn't be canonical
       λ full lone. c.shorter [] block full (cc (blocks-are c.blocks c.frame, lone-parts)),
     ),
+    -- the converse: a block can be put before a canonical frame
     λ both. IsCanonical-cons block f is both.1 both.0,
   )
 

@@ -1,5 +1,6 @@
--- A message of fewer than 255 bytes has one code (`encoded_len-short`), and its frame, with each byte XORed with the sentinel, is
--- a frame for that sentinel (`frame_for`). The bytes after the frame are those that `encode` left (`drop-append-drop`).
+-- A message of fewer than 255 bytes has one code (`encoded_len-short`), and its frame, with each byte XORed with the
+-- sentinel, is a frame for that sentinel (`frame_for`). The bytes after the frame are those that `encode` left
+-- (`drop-append-drop`).
 use Rattle.std.proofs.Common.{◌≡◌, ◌≤◌, ◌+◌, ◌++◌, ℕ, List, length, length-take-le, take, take_at, drop, ◌∙◌, arith}
 use Rattle.std.proofs.lemmas.List.{length-map}
 use Rattle.std.proofs.lemmas.Slice.{drop-append-drop}

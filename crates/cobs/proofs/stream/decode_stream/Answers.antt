@@ -1,5 +1,5 @@
--- The list has the outcomes of the bytes so far (`TakesBytes`). Each piece that ends adds an outcome (`takes-piece`); the
--- last bytes, in which no piece ends, add none (`takes-all`).
+-- The list has the outcomes of the bytes so far (`TakesBytes`). Each piece that ends adds an outcome (`takes-piece`);
+-- the last bytes, in which no piece ends, add none (`takes-all`).
 use Rattle.std.proofs.Common.{refl, arith}
 use Rattle.std.proofs.lemmas.List.{map_push}
 use Rattle.cobs.specs.Messages.{outcome_in}

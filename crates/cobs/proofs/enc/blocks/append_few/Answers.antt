@@ -1,4 +1,5 @@
--- Each byte is written after the open block's bytes (`written`), and then joins them or, if it is a zero, closes the block.
+-- Each byte is written after the open block's bytes (`written`), and then joins them or, if it is a zero, closes the
+-- block.
 use Rattle.std.proofs.Common.{◌≡◌, ℕ, get_or, refl, arith}
 use Rattle.std.proofs.lemmas.List.{length-set}
 use Rattle.cobs.proofs.encoding.ReachLemmas.{Reaches-code, Reaches-weaker, Reaches-zero}

@@ -1,4 +1,5 @@
--- Each turn takes a part of the run (`slice-joined`), which may fill its block; the zero after the run closes the last one.
+-- Each turn takes a part of the run (`slice-joined`), which may fill its block; the zero after the run closes the last
+-- one.
 use Rattle.std.proofs.Common.{◌≡◌, ◌==◌, ◌+◌, ◌-◌, ℕ, List, drop, get_or, refl, arith, length-drop}
 use Rattle.std.specs.Prelude.{not}
 use borrow.Rule.Slice.PartMut.{put_mid}

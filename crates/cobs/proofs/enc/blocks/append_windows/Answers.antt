@@ -1,5 +1,5 @@
--- Each turn takes one window: without a zero (`masked-end`), with zeros that are marked (`masked-step`), with zeros only
--- (`row-taken`), or up to a full block (`filled`).
+-- Each turn takes one window: without a zero (`masked-end`), with zeros that are marked (`masked-step`), with zeros
+-- only (`row-taken`), or up to a full block (`filled`).
 use Rattle.std.proofs.Common.{ℕ, ◌≡◌, refl, ◌≢◌, ◌<◌, ◌≤◌, ◌+◌, ◌-◌, min, arith, length, take, drop, length-drop}
 use lib.Count.{count_trailing_zeros}
 use Rattle.std.proofs.lemmas.Grind.{common_steps}

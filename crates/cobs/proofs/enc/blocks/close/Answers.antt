@@ -1,4 +1,5 @@
--- With its last code written the slice holds the whole frame: by `closed-open`, or `closed-full` if it ends in a full block.
+-- With its last code written the slice holds the whole frame: by `closed-open`, or `closed-full` if it ends in a full
+-- block.
 use Rattle.std.proofs.Common.{arith}
 use Rattle.std.proofs.lemmas.List.{take-set}
 use Rattle.cobs.proofs.encoding.AfterLemmas.{closed-full, closed-open}

@@ -60,6 +60,7 @@ module _ {old source slice : List ℕ} {pos index next : ℕ} (some : 0 < length
             rw code (closed-full after refl))
       ]
 
+-- before the first part, no byte of the message is taken
 pub by_part-init : goal.by_part-init
 by_part-init c = whole-start (omega arith)
 
@@ -104,6 +105,7 @@ by_byte-preserved c =
       })
     ]
 
+-- after the last part, the whole message is taken
 pub returns : goal.returns
 returns c =
     let r = c.by_part.invariant in

@@ -1,5 +1,6 @@
 -- The invariant compares the bytes that the frame still needs (`open_len`) with those that are left. `len-full`,
--- `len-byte` and `len-zero` say how a full block and a byte change the first number, and `len-end` is its value at the end.
+-- `len-byte` and `len-zero` say how a full block and a byte change the first number, and `len-end` is its value at the
+-- end.
 use Rattle.std.proofs.Common.{◌≡◌, ◌<◌, ◌+◌, arith, drop, length-drop}
 use Rattle.cobs.specs.Length.{open_len}
 use Rattle.cobs.proofs.encoding.OpenLenLemmas.{len-full, len-end, len-byte, len-zero}
@@ -26,4 +27,5 @@ by_byte-preserved c =
           rw (w.left-is, w.taken-is) (omega arith, omega arith, omega arith)
       | goal.else-taken-eq-FULL_BLOCK_BYTES w ↦ grind arith
     ] in
+    -- then the byte is counted: it joins the open block, or is a zero and closes it
     grind (arith, len-byte, len-zero)

@@ -32,6 +32,7 @@ room c = has-room c.args.self.now c.args.dest.now c.args.byte (omega arith) (ome
 taken : (c : After-append_byte) → TakesFront c.args.dest.now (reached_by c.args.self.now) (c.args.byte ∷ []) 1 c.append_byte.new.dest (reached_by c.append_byte.new.self)
 taken c = c.append_byte.ensures.taken [] (room c).fits
 
+-- all clauses, after the byte was taken
 pub returns : goal.returns
 returns c =
     let after = (goal.at.returns c).After-append_byte in

@@ -1,5 +1,5 @@
--- The slice holds the message's open frame, so closing its last block makes the frame (`closed-open`), unless that block is
--- full (`closed-full`), and its length is the end (`end-is`). A frame has no zero (`encoded_nonzero`).
+-- The slice holds the message's open frame, so closing its last block makes the frame (`closed-open`), unless that
+-- block is full (`closed-full`), and its length is the end (`end-is`). A frame has no zero (`encoded_nonzero`).
 use Rattle.std.proofs.Common.{arith}
 use Rattle.cobs.proofs.encoding.AfterLemmas.{after-place, closed-full, closed-open, end-is}
 use Rattle.cobs.proofs.format.SentinelLemmas.{encoded_nonzero}

@@ -1,6 +1,6 @@
 -- Only the clause `fits` is proved here, as for `push`: the length of the frame of all bytes so far is `end_after`
--- (`after-end`), and `has_room` compares that index with the slice (`end-with`). An encoder that has taken a message has a
--- possible state (`after-place`), so it takes a push of no bytes.
+-- (`after-end`), and `has_room` compares that index with the slice (`end-with`). An encoder that has taken a message
+-- has a possible state (`after-place`), so it takes a push of no bytes.
 use Rattle.std.proofs.Common.{append-nil, [], ◌≡◌, ◌≢◌, length, refl, arith}
 use Rattle.std.proofs.lemmas.Grind.{common_steps}
 use Rattle.cobs.proofs.encoding.ByteLemmas.{end-with, place-short}
