@@ -1,5 +1,6 @@
--- The decoders of a whole list report the outcome of the list's first piece (`Reported`), so they return the message m exactly
--- if the list reads as m (`outcome_message`).
+-- The decoders of a whole list report the outcome of the list's first piece (`Reported`), so they return the message m
+-- exactly if the list reads as m (`outcome_message`). The clauses of `decode`, `decode_with_sentinel` and
+-- `decode_in_place_report` follow: `decode_clauses`, `source_clauses` and `in_place_clauses`.
 use Rattle.std.proofs.Common.{◌≡◌, ◌≢◌, ℕ, ◌<◌, ◌≤◌, ◌↔◌, ◌⊎◌, inl, inr, false, List, [], ◌∷◌, length, take, All, Result, Ok, Err, refl, sym, ap, ◌∙◌, arith, get_or, Fits, w8}
 use Rattle.std.specs.Prelude.{IfErr}
 use Rattle.std.proofs.lemmas.Bool.{cases_Bool, cases_lt}
@@ -26,7 +27,7 @@ use Rattle.cobs.proofs.decoding.VectorSteps.{kept_within, overwritten-begins}
 pub bytes_below : (bytes : List ℕ) → ((i : ℕ) → Fits w8 (get_or bytes i 0)) → All (λ b. b < 256) bytes
 bytes_below bytes fits = All-from_get_or (λ b. b < 256) bytes 0 (λ i within. (fits i).fits)
 
--- and it stays there if the bytes are XORed with one
+-- bytes that are XORed with a byte s are below 256 too
 pub xored_below : (s : ℕ) (bytes : List ℕ) → s < 256 → ((i : ℕ) → Fits w8 (get_or bytes i 0)) → All (λ b. b < 256) (xor_each s bytes)
 xored_below s bytes small fits = All-map (λ b. b < 256) (λ b. bit_xor b s) bytes
     (All-weaker (λ b. b < 256) (λ b. bit_xor b s < 256) (λ b below. xor_lt 8 b s below small) bytes (bytes_below bytes fits))
@@ -37,13 +38,14 @@ Reported (Message m) result buffer = (result ≡ Ok (length m)) × (take (length
 Reported (Broken count) result buffer = (error : DecodeError) × (result ≡ Err error)
 Reported TooLong result buffer = (error : DecodeError) × (result ≡ Err error)
 
+-- a call that reports an outcome returns the message m exactly if the outcome is `Message m`
 reported : (outcome : Outcome) (result : Result ℕ DecodeError) (buffer m : List ℕ) → Reported outcome result buffer
     → ReturnsMessage result buffer m ↔ (outcome ≡ Message m)
 reported (Message k) result buffer m h = grind arith
 reported (Broken count) result buffer m h = grind arith
 reported TooLong result buffer m h = grind arith
 
--- so it returns the message m exactly if the list reads as m and m fits n bytes
+-- a call that reports the outcome of the piece f in n bytes returns m exactly if f is a frame of m that fits n bytes
 returns-reads : (f m : List ℕ) (n : ℕ) (result : Result ℕ DecodeError) (buffer : List ℕ) → IsPiece f → All (λ b. b < 256) f
     → Reported (outcome_of f n) result buffer → ReturnsMessage result buffer m ↔ (Reads f m × (length m ≤ n))
 returns-reads f m n result buffer piece below h =
@@ -51,7 +53,7 @@ returns-reads f m n result buffer piece below h =
     let o = outcome_message f m n piece below in
     grind arith
 
--- the same for a report, which also has the number of parsed bytes
+-- the report of a result, which also has the number of parsed bytes, returns m exactly if the result does
 reports : (parsed : ℕ) (result : Result ℕ DecodeError) (buffer m : List ℕ) (P : Type 0) → ReturnsMessage result buffer m ↔ P → ReportsMessage (report_result parsed result) buffer m ↔ P
 reports parsed result buffer m P h = grind arith
 
@@ -74,6 +76,7 @@ decode-reported f buffer buffer' TooLong e is = (TargetBufTooSmall, refl)
 -- the clauses of `decode` follow from its result and its buffer
 module _ (f old : List ℕ) (result : Result DecodeReport DecodeError) (new : List ℕ) (returned : result ≡ result_of_decode f (length old))
     (after : new ≡ overwritten old (first_output f)) (below : All (λ b. b < 256) f) where
+  -- for a piece f, the report returns m exactly if f is a frame of m that fits the buffer
   decode_reported : IsPiece f → (m : List ℕ) → ReportsMessage result new m ↔ (Reads f m × (length m ≤ length old))
   decode_reported piece m =
       let written : new ≡ overwritten old (output f) = rw (first_piece_alone f piece.0 piece.1) at after in
@@ -81,6 +84,7 @@ module _ (f old : List ℕ) (result : Result DecodeReport DecodeError) (new : Li
       (reports (len_through_piece f f) (outcome_result (outcome_of f _)) new m _
       (returns-reads f m _ (outcome_result (outcome_of f _)) new piece below (decode-reported f old new _ refl written)))
 
+  -- all clauses of `decode`
   pub decode_clauses : record {
     answer : result ≡ result_of_decode f (length old);
     buffer : new ≡ overwritten old (first_output f);
@@ -91,8 +95,8 @@ module _ (f old : List ℕ) (result : Result DecodeReport DecodeError) (new : Li
 
 -- DECODING FROM A SOURCE FOR ANY SENTINEL
 
--- a piece has no zero, so it is its own head: for a piece, the result of `decode_with_sentinel` is the result for all its
--- bytes
+-- a piece has no zero, so it is its own head: for a piece, the result of `decode_with_sentinel` is the result for all
+-- its bytes
 result_of_sentinel_decode_alone : (f : List ℕ) (n : ℕ) → IsPiece f → result_of_sentinel_decode f n ≡ head_result_within f n
 result_of_sentinel_decode_alone [] n piece = grind arith
 result_of_sentinel_decode_alone (byte ∷ bytes) n piece = grind (arith, head_alone)
@@ -117,12 +121,14 @@ source-reported f buffer buffer' TooLong e some is = within-rejected f (length b
 -- the clauses of `decode_with_sentinel` follow from its result and its buffer
 module _ (f old : List ℕ) (result : Result ℕ DecodeError) (new : List ℕ) (returned : result ≡ result_of_sentinel_decode f (length old))
     (after : new ≡ overwritten old (kept_output (head f))) (below : All (λ b. b < 256) f) where
+  -- for a piece f, the result returns m exactly if f is a frame of m that fits the buffer
   source_reported : IsPiece f → (m : List ℕ) → ReturnsMessage result new m ↔ (Reads f m × (length m ≤ length old))
   source_reported piece m =
       let written : new ≡ overwritten old (kept_output f) = rw (head_alone f piece.1) at after in
       rw (returned, result_of_sentinel_decode_alone f (length old) piece)
       (returns-reads f m _ _ new piece below (source-reported f old new _ refl piece.0 written))
 
+  -- all clauses of `decode_with_sentinel`
   pub source_clauses : record {
     answer : result ≡ result_of_sentinel_decode f (length old);
     buffer : new ≡ overwritten old (kept_output (head f));
@@ -133,10 +139,12 @@ module _ (f old : List ℕ) (result : Result ℕ DecodeError) (new : List ℕ) (
 
 -- DECODING IN PLACE, WHERE THE BUFFER IS THE SOURCE
 
+-- decoding in place has the result of decoding into another buffer of the same length
 in_place-source : (f : List ℕ) → result_in_place f ≡ result_of_sentinel_decode f (length f)
 in_place-source [] = refl
 in_place-source (byte ∷ bytes) = grind (arith, kept_within, length-head)
 
+-- an error of `decode_in_place_report` isn't `TargetBufTooSmall`
 in_place-room : (f : List ℕ) (result : Result DecodeReport DecodeError) → result ≡ in_place_report f → IfErr result (λ error. error ≢ TargetBufTooSmall)
 in_place-room [] result is = grind arith
 in_place-room (byte ∷ bytes) result is = grind arith
@@ -144,11 +152,13 @@ in_place-room (byte ∷ bytes) result is = grind arith
 -- the clauses of `decode_in_place_report` follow from its report and its buffer
 module _ (f : List ℕ) (result : Result DecodeReport DecodeError) (new : List ℕ) (returned : result ≡ in_place_report f) (after : new ≡ in_place f)
     (below : All (λ b. b < 256) f) where
+  -- for a piece f, the report returns m exactly if f is a frame of m that fits the buffer
   in_place_reported : IsPiece f → (m : List ℕ) → ReportsMessage result new m ↔ (Reads f m × (length m ≤ length f))
   in_place_reported piece m =
       rw returned
       (reports (length (head f)) (result_in_place f) new m _ (source_reported f f (result_in_place f) new (in_place-source f) after below piece m))
 
+  -- all clauses of `decode_in_place_report`
   pub in_place_clauses : record {
     answer : result ≡ in_place_report f;
     buffer : new ≡ in_place f;

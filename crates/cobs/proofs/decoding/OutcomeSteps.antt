@@ -1,5 +1,5 @@
--- The result of `decode` follows from the two numbers that a decoder counts: the output's length, and the number of
--- missing bytes of the last part. By `outcome_of_none_missing` and `outcome_of_some_missing`.
+-- The result of `decode` (`answer-by`) follows from the two numbers that a decoder counts (`result-by`): the output's
+-- length, and the number of missing bytes of the last part. By `outcome_of_none_missing` and `outcome_of_some_missing`.
 use Rattle.std.proofs.Common.{◌≡◌, ℕ, ◌+◌, ◌<◌, ◌≤◌, false, IsTrue, eqb, List, [], ◌∷◌, length, take, drop, min, Option, None, Some, Result, Ok, Err, arith, length-take-le, take-append-drop, take_all}
 use Rattle.std.specs.Prelude.{IfOk}
 use Rattle.std.proofs.lemmas.Bool.{ne_eqb, eq-eqb}
@@ -31,22 +31,25 @@ overwritten-front old new bytes written same within rest is = grind (arith, leng
 
 -- the report of `decode_in_place_report`, by the result for the bytes before the first zero
 module _ (buffer h : List ℕ) (some : 0 < length buffer) (is : h ≡ head buffer) (result : Result ℕ DecodeError) (result-is : result ≡ head_result h) where
+  -- an error is reported as it is
   pub in_place_report-rejected : (error : DecodeError) → result ≡ Err error → Err error ≡ in_place_report buffer
   in_place_report-rejected error e = grind arith
 
+  -- for a message, its length and the number of bytes before the first zero are reported
   pub in_place_report-decoded : (size parsed : ℕ) → result ≡ Ok size → parsed ≡ length h → (report : DecodeReport) → report ≡ record { parsed_size = parsed; frame_size = size } → Ok report ≡ in_place_report buffer
   in_place_report-decoded size parsed e count report r = grind arith
 
--- the result for a piece whose output fits
+-- the result for a piece whose output fits: k is the length of the output, and `left` the number of missing bytes
 pub result-by : (p : List ℕ) (n k left : ℕ) (r : Result ℕ DecodeError) → 0 < length p → length (output p) ≤ n → k ≡ length (output p) → left ≡ missing (last_part p)
     → (IsTrue (eqb left 0) → r ≡ Ok k) → (eqb left 0 ≡ false → r ≡ Err (InvalidFrame k)) → r ≡ outcome_result (outcome_of p n)
 result-by p n k left r some fits count is whole broken = grind (arith, eq-eqb, ne_eqb, outcome_of_none_missing, outcome_of_some_missing)
 
--- a fact holds whatever is returned
+-- a fact P that holds for every result also holds if the result is an `Ok`
 pub always : {P : Type 0} (r : Result ℕ DecodeError) → P → IfOk r (λ size. P)
 always r p = grind arith
 
--- the number of parsed bytes counts only if the message is returned
+-- the result of `decode` for a source whose first piece is p; the number of parsed bytes matters only if the result is
+-- an `Ok`
 pub answer-by : (source p : List ℕ) (n parsed len : ℕ) (r : Result ℕ DecodeError) → 0 < length source → first_piece source ≡ Some p → parsed ≡ min (length source) (leading_zeros source + len + 1) → r ≡ outcome_result (outcome_of p n) → IfOk r (λ size. len ≡ length p)
     → report_result parsed r ≡ result_of_decode source n
 answer-by [] p n parsed len r some found parsed-is returned count = grind arith

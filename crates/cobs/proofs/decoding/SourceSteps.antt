@@ -1,5 +1,5 @@
--- A source for any sentinel is a source for 0 once each byte is XORed with it: the bytes before its first sentinel, and the
--- result for that, by `coded_nonzero`.
+-- A source for any sentinel is a source for 0 once each byte is XORed with it: the bytes before its first sentinel, and
+-- the result for that, by `coded_nonzero`.
 use Rattle.std.proofs.Common.{◌≡◌, ◌≢◌, ℕ, ◌<◌, ◌≤◌, All, List, [], ◌∷◌, length, take, get_or, bit_xor, Err, arith}
 use Rattle.std.specs.Int.Bits.{xor_self}
 use Rattle.std.proofs.lemmas.List.{get_or-map, length-map, take-map}
@@ -17,27 +17,32 @@ use Rattle.cobs.proofs.format.SentinelLemmas.{coded_nonzero}
 
 -- RESULTS BY THE KEPT OUTPUT
 
+-- the result for the bytes h in a buffer of n bytes
 module _ (h : List ℕ) (n : ℕ) where
-  -- if it fits
+  -- if the kept output of h fits
   pub result-fits : length (kept_output h) ≤ n → head_result h ≡ head_result_within h n
   result-fits fits = grind arith
 
-  -- if it is too long
+  -- if the kept output of h is too long
   pub result-too_long : n < length (kept_output h) → Err TargetBufTooSmall ≡ head_result_within h n
   result-too_long long = grind arith
 
 -- THE SOURCE BEFORE ITS FIRST SENTINEL
 
+-- after the XOR with s, the bytes before the first s of the source are the bytes before the first zero
 pub front-head : (source : List ℕ) (end s : ℕ) → end ≤ length source → HasNoZero (xor_each s (take end source)) → (end < length source → get_or source end 0 ≡ s)
     → xor_each s (take end source) ≡ head (xor_each s source)
 front-head source end s within nonzero stop =
     let same : take end (xor_each s source) ≡ xor_each s (take end source) = take-map (λ b. bit_xor b s) end source in
     grind (arith, front_is_head, get_or-map, xor_self, length-map)
 
+-- the first `end` bytes of the source don't contain s, and an s or the end of the source follows them
 module _ (source : List ℕ) (end s : ℕ) (within : end ≤ length source) (before : All (λ byte. byte ≢ s) (take end source)) (stop : end < length source → get_or source end 0 ≡ s) where
+  -- after the XOR with s, these bytes contain no zero
   pub xor_no_zero : HasNoZero (xor_each s (take end source))
   xor_no_zero = coded_nonzero (take end source) s before
 
+  -- after the XOR with s, these bytes are the bytes before the first zero
   pub xor_head : xor_each s (take end source) ≡ head (xor_each s source)
   xor_head = grind (arith, front-head, xor_no_zero)
 

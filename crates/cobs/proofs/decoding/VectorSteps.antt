@@ -1,4 +1,6 @@
--- A buffer as long as the source has room for all bytes that are decoded from the source, by `output_within`.
+-- A buffer as long as the source has room for all bytes that are decoded from the source, by `output_within`. So the
+-- results of `decode` and `decode_with_sentinel` for such a buffer give the values of `decoded` (`decoded-message`,
+-- `decoded-rejected`) and `decoded_head` (`decoded_head-message`, `decoded_head-rejected`).
 use Rattle.std.proofs.Common.{◌≡◌, ◌≢◌, ℕ, zero, suc, ◌<◌, ◌≤◌, List, [], ◌∷◌, length, take, Option, Some, None, Result, Ok, Err, if◌then◌else◌, arith, take_at, take_all, length-take}
 use Rattle.cobs.specs.Overwritten.{overwritten}
 use Rattle.cobs.specs.Piece.{output, is_whole, kept_output}
@@ -28,32 +30,38 @@ outcome_result-fits : (p : List ℕ) (n : ℕ) → length (output p) ≤ n → o
 unfolding outcome_of
 outcome_result-fits p n fits = grind arith
 
--- a kept output is no longer than the output
+-- the kept output is no longer than the piece
 pub kept_within : (p : List ℕ) → length (kept_output p) ≤ length p
 unfolding kept_output
 kept_within p = grind (arith, output_within, length-take)
 
 -- THE FIRST PIECE
 
+-- the buffer is as long as the source
 module _ (source : List ℕ) (n : ℕ) (room : n ≡ length source) where
+  -- the result `returned` is this error, and the error isn't `TargetBufTooSmall`
   abbrev Rejected : Result (List ℕ) DecodeError → DecodeError → Type 0
   Rejected returned error = (returned ≡ Err error) × (error ≢ TargetBufTooSmall)
 
-  -- the message is the front of the buffer that `decode` returns
+  -- if `decode` returns a report, the message of the first piece is at the front of the buffer
   piece-message : (report : DecodeReport) (old : List ℕ) (p : Option (List ℕ)) → first_piece source ≡ p → length old ≡ n → Ok report ≡ result_by_piece source p n
       → message_of_piece p ≡ Ok (take (frame_size_of report) (overwritten old (output_of p)))
   piece-message report old None is long e = absurd (cc)
   piece-message report old (Some p) is long e = grind (arith, first_piece_within, output_within, outcome_result-fits, overwritten-begins)
 
+  -- the result of `decode`, by the first piece
   result-equals : 0 < length source → result_of_decode source n ≡ result_by_piece source (first_piece source) n
   result-equals some = grind arith
 
+  -- the value of `decoded`, by the first piece
   decoded-is : 0 < length source → decoded source ≡ message_of_piece (first_piece source)
   decoded-is some = grind arith
 
+  -- an error of `decode` is the error in `decoded`
   pub decoded-rejected : (error : DecodeError) → 0 < length source → Err error ≡ result_of_decode source n → Rejected (decoded source) error
   decoded-rejected error some e = grind (arith, first_piece_within, output_within, outcome_result-fits, result-equals)
 
+  -- if `decode` returns a report, the message in `decoded` is at the front of the buffer
   pub decoded-message : (report : DecodeReport) (old new : List ℕ) → 0 < length source → length old ≡ n → Ok report ≡ result_of_decode source n → new ≡ overwritten old (first_output source)
       → decoded source ≡ Ok (take (frame_size_of report) new)
   decoded-message report old new some long e is = grind (arith, piece-message, result-equals)
@@ -64,17 +72,20 @@ module _ (source : List ℕ) (n : ℕ) (room : n ≡ length source) where
   head-is : 0 < length source → decoded_head source ≡ message_of_head (head source)
   head-is some = grind arith
 
-  -- an error isn't `TargetBufTooSmall`, and a message is the front of the buffer
+  -- an error for the bytes h before a zero is the error in `message_of_head`, and isn't `TargetBufTooSmall`
   rejected : (error : DecodeError) (h : List ℕ) → Err error ≡ head_result h → Rejected (message_of_head h) error
   rejected error h e = grind arith
 
+  -- an error of `decode_with_sentinel` is the error in `decoded_head`
   pub decoded_head-rejected : (error : DecodeError) → 0 < length source → Err error ≡ result_of_sentinel_decode source n → Rejected (decoded_head source) error
   decoded_head-rejected error some e = grind (arith, kept_within, length-head, result-fits, head-is, rejected)
 
+  -- if the bytes h before a zero are decoded, their message is at the front of the buffer
   message : (size : ℕ) (old : List ℕ) (h : List ℕ) → length h ≤ length old → Ok size ≡ head_result h → message_of_head h ≡ Ok (take size (overwritten old (kept_output h)))
   unfolding kept_output
   message size old h fits e = grind (arith, output_within, overwritten-begins)
 
+  -- if `decode_with_sentinel` returns a length, the message in `decoded_head` is at the front of the buffer
   pub decoded_head-message : (size : ℕ) (old new : List ℕ) → 0 < length source → length old ≡ n → Ok size ≡ result_of_sentinel_decode source n → new ≡ overwritten old (kept_output (head source))
       → decoded_head source ≡ Ok (take size new)
   decoded_head-message size old new some long e is = grind (arith, length-head, head-is, message, kept_within, result-fits)

@@ -1,6 +1,7 @@
--- The two facts about the slice of an encoder, `CobsEncoderAfter` and `Opened`, follow from each other, since a message
--- has only one encoded frame (`one_encoded`). So the length of the frame and the room for it follow, and `close`
--- completes the frame.
+-- The two facts about the slice of an encoder, `CobsEncoderAfter` and `Opened`, follow from each other (`to_after`,
+-- `from_after`), since a message has only one encoded frame (`one_encoded`). So the length of the frame follows
+-- (`end-is`, `after-len`), and the room for it (`after-fits`). The code of the open block completes the frame
+-- (`closed-open`), unless the frame ends in a full block (`closed-full`).
 use Rattle.std.proofs.Common.{◌≡◌, ◌≢◌, ℕ, ◌+◌, ◌-◌, ◌<◌, ◌≤◌, Bool, true, false, if◌then◌else◌, List, [], ◌∷◌, ◌++◌, length, set, take, All, refl, sym, ap, ◌∙◌, arith, inl, inr, ◌⊎◌, append-nil, length-append, length-take}
 use Rattle.std.specs.List.{concat}
 use Rattle.std.proofs.lemmas.Bool.{cases_Bool}
@@ -41,6 +42,8 @@ to_after {slice} {m} {index} {next} {full} code is short fits o =
       begins = b.1;
     }
   where
+    -- the fields `fits` and `begins`, for a frame that ends with the open block, and for one that ends in a full block
+    -- before it
     by_end : (full : Bool) → (if full then index else next) ≤ length slice
         → let frame = closed_frame (open_frame o code is short) full in (length frame ≤ length slice) × AgreeOutside index frame (take (length frame) slice)
     by_end false fits =
@@ -48,11 +51,13 @@ to_after {slice} {m} {index} {next} {full} code is short fits o =
         (omega arith, rw long (open_slice o code is fits))
     by_end true fits = grind (arith, append-nil, set_past)
 
+-- the encoder has taken m; its slice and its progress are `slice` and `r`
 module _ {slice m : List ℕ} {r : Reached} (h : CobsEncoderAfter slice r m) where
+  -- the open frame of m that the encoder has
   abbrev o : IsOpenFrame h.follows.0 m r.block.index r.block.code
   o = h.follows.1
 
-  -- its blocks
+  -- the blocks before the open block are blocks, and the open block is a block too
   parts : All IsBlock o.front × IsBlock (r.block.code ∷ o.bytes)
   parts = blocks-of o
 
@@ -64,7 +69,8 @@ module _ {slice m : List ℕ} {r : Reached} (h : CobsEncoderAfter slice r m) whe
   pub whole-is : {full : Bool} → r.full ≡ full → h.frame ≡ concat o.front ++ (if full then [] else r.block.code ∷ o.bytes)
   whole-is is = (frame-is h.encoded o).1 ∙ ap (λ full. concat o.front ++ (if full then [] else r.block.code ∷ o.bytes)) (sym noted-is ∙ is)
 
-  -- so an encoder's slice has the blocks before the open block, and the open block's bytes after the place of its code
+  -- the slice has the blocks before the open block, and the open block's bytes after the place of its code: if the
+  -- frame ends in a full block (`inl`), and if it doesn't (`inr`)
   there : (r.full ≡ true) ⊎ (r.full ≡ false) → Opened slice m r.block.index (next_of r) (ends_in_full o.front o.bytes)
   there (inl full) =
       let none = no_bytes o.front o.bytes (sym noted-is ∙ full) in
@@ -77,15 +83,16 @@ module _ {slice m : List ℕ} {r : Reached} (h : CobsEncoderAfter slice r m) whe
       let long : length h.follows.0 ≡ next_of r = ap length (f-is o) ∙ length-append (concat o.front) _ ∙ omega (arith, parts.1.0) in
       Opened-same (rw long at (output-opened out)) slice (grind (arith, take-take))
 
-  -- the converse of `to_after`
+  -- the converse of `to_after`: the slice of an encoder meets `Opened`
   pub from_after : Opened slice m r.block.index (next_of r) r.full
   from_after = rw noted-is (there (cases_Bool r.full))
 
-  -- the end of the frame
+  -- the encoded frame of m ends at the index that the progress gives
   pub end-is : encoded_len m ≡ end_of r
   end-is =
       grind (arith, whole-is refl, length-append, sym (length-encoded h.frame m h.encoded), parts.1.0)
 
+  -- the frame in the slice ends at this index
   length-frame : length h.frame ≡ end_of r
   length-frame = length-encoded h.frame m h.encoded ∙ end-is
 
@@ -93,6 +100,7 @@ module _ {slice m : List ℕ} {r : Reached} (h : CobsEncoderAfter slice r m) whe
   pub after-fits : encoded_len m ≤ length slice
   after-fits = grind (arith, length-frame, end-is)
 
+  -- the progress is possible in the slice
   pub after-place : IsPlaceIn (length slice) r
   after-place = grind (arith, parts, end-is, after-fits)
 
@@ -102,15 +110,16 @@ module _ {slice m : List ℕ} {r : Reached} (h : CobsEncoderAfter slice r m) whe
       let code : next_of r - r.block.index ≡ r.block.code = omega arith in
       rw code at (Opened-len bytes (λ full. some) from_after)
 
-  -- the same, also if there are no such bytes
+  -- the length of the frame after the encoder has taken these bytes too, which may be no bytes
   pub after-end : (bytes : List ℕ) → encoded_len (m ++ bytes) ≡ end_after r bytes
   after-end [] = grind (arith, append-nil, end-is)
   after-end (b ∷ bytes) = grind (arith, after-len)
 
-  -- the code of the open block completes the frame; a frame that ends in a full block is complete
+  -- if the frame ends in a full block, it is complete
   pub closed-full : r.full ≡ true → IsEncodedFrame (take r.block.index slice) m
   closed-full full = grind (arith, length-frame, set_past)
 
+  -- if the frame doesn't end in a full block, the code of the open block completes it
   pub closed-open : r.full ≡ false → IsEncodedFrame (take (next_of r) (set slice r.block.index r.block.code)) m
   closed-open open' =
       let some = after-place.some in

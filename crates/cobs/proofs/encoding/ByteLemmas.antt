@@ -1,5 +1,6 @@
--- Lemmas on an encoder over a slice that takes one more byte. The byte closes, joins or fills the open block, by
--- `Reaches-zero`, `Reaches-join` and `Reaches-full`.
+-- Lemmas on an encoder over a slice that takes one more byte. A zero closes the open block (`after-zero`), any other
+-- byte joins it (`after-byte`), and the 254th byte fills it (`after-filled`), by `Reaches-zero`, `Reaches-join` and
+-- `Reaches-full`. `law_16` states these steps.
 use Rattle.std.proofs.Common.{◌≡◌, ◌≢◌, ℕ, ◌+◌, ◌-◌, ◌<◌, ◌≤◌, true, false, List, [], ◌∷◌, ◌++◌, length, get_or, refl, ap, ◌∙◌, arith}
 use Rattle.std.proofs.Math.ListN.{set}
 use Rattle.std.proofs.lemmas.List.{length-set}
@@ -16,15 +17,16 @@ use Rattle.cobs.specs.Internal.Reaches.{Reaches, start_with}
 use Rattle.cobs.specs.Fields.Progress.{reached_by}
 use Rattle.cobs.specs.declared.enc.unbuffered.UnbufferedEncoder.{UnbufferedEncoder}
 
--- the length of the frame of a longer message
+-- the length of the frame of m and more bytes; a is any list of nonzero bytes, as many as the open block has
 pub after-more : {slice m : List ℕ} {r : Reached} (a bytes : List ℕ) → CobsEncoderAfter slice r m → HasNoZero a → length a + 1 ≡ r.block.code
     → bytes ≢ [] → encoded_len (m ++ bytes) ≡ r.block.index + encoded_len (a ++ bytes)
 after-more {r = r} a bytes h nonzero long some =
     let k = length-ones (r.block.code - 1) in
     after-len h bytes some ∙ ap (λ n. r.block.index + n) (grind (arith, same_start, ones-nonzero))
 
--- the first byte of a source is taken
+-- the next bytes of the message are the source, whose frame fits the slice; its first byte is taken
 module _ {source slice : List ℕ} {r : Reached} {next : ℕ} (place : IsPlaceIn (length slice) r) (fits : end_after r source ≤ length slice) (some : 0 < length source) (at : next ≡ next_of r) where
+  -- at the start, no byte of the source is encoded
   start : Reaches (start_with slice r source) slice 0 r.block.index next (λ _. Unit {0})
   start = rw at (reaches-start some place.some place.not_full)
 
@@ -36,10 +38,11 @@ module _ {source slice : List ℕ} {r : Reached} {next : ℕ} (place : IsPlaceIn
       let long = length-set slice r.block.index code in
       front-open (omega arith) (rw code-is at closed) (omega arith) refl is
 
-  -- any other byte joins the open block
+  -- a nonzero byte, written to the slice, joins the open block
   more : get_or source 0 0 ≢ 0 → Reaches (start_with slice r source) (set slice next (get_or source 0 0)) 1 r.block.index (next + 1) IsNotFull
   more other = joined _ some start refl other (omega arith) fits
 
+  -- if the byte isn't the block's 254th byte, the block stays open
   pub byte-joins : {r' : Reached} {code : ℕ} → get_or source 0 0 ≢ 0 → r.block.code ≢ 254 → code ≡ r.block.code + 1
       → r' ≡ place_at r.block.index code false → TakesFront slice r source 1 (set slice next (get_or source 0 0)) r'
   byte-joins other open' coded is =
@@ -51,43 +54,49 @@ module _ {source slice : List ℕ} {r : Reached} {next : ℕ} (place : IsPlaceIn
       → TakesFront slice r source 1 (set (set slice next (get_or source 0 0)) r.block.index 255) r'
   byte-fills other last is = let long = length-set slice next (get_or source 0 0) in front-filled (omega arith) (omega arith) (more other) refl is
 
--- there is room for a byte
+-- if the next index is within the slice, the frame still fits the slice after one more byte
 pub fits-byte : (slice : List ℕ) (r : Reached) (byte : ℕ) → 0 < r.block.code → r.block.code < 255 → next_of r < length slice → end_after r (byte ∷ []) ≤ length slice
 fits-byte slice r byte some short room = grind (arith, short_room)
 
--- the three steps, for the bytes that an encoder has taken
+-- the three steps for an encoder that has taken m, and has room for a byte
 module _ {slice m : List ℕ} {r : Reached} (h : CobsEncoderAfter slice r m) (room : next_of r < length slice) where
+  -- the frame fits the slice after one more byte
   fits : (byte : ℕ) → end_after r (byte ∷ []) ≤ length slice
   fits byte = grind (arith, fits-byte, after-place h)
 
+  -- a nonzero byte joins the open block
   pub after-byte : (byte : ℕ) → byte ≢ 0 → r.block.code < 254 → CobsEncoderAfter (set slice (next_of r) byte) (place_at r.block.index (r.block.code + 1) false) (m ++ byte ∷ [])
   after-byte byte other short = (byte-joins {source = byte ∷ []} (after-place h) (fits byte) (omega arith) refl other (omega arith) refl refl).after m h
 
+  -- the 254th nonzero byte fills the open block, and its code 255 is written
   pub after-filled : (byte : ℕ) → byte ≢ 0 → r.block.code ≡ 254
       → CobsEncoderAfter (set (set slice (next_of r) byte) r.block.index 255) (place_at (r.block.index + 255) 1 true) (m ++ byte ∷ [])
   after-filled byte other last =
       (byte-fills {source = byte ∷ []} (after-place h) (fits byte) (omega arith) refl other last (grind arith)).after m h
 
+  -- for a zero, the code of the open block is written
   pub after-zero : CobsEncoderAfter (set slice r.block.index r.block.code) (place_at (next_of r) 1 false) (m ++ 0 ∷ [])
   after-zero = (byte-zero {source = 0 ∷ []} (after-place h) (fits 0) (omega arith) refl refl refl refl).after m h
 
 -- ROOM FOR A BYTE, GIVEN THE ENCODER'S PLAIN NUMBERS
 
--- the state of an encoder whose open block isn't full
+-- the numbers of an encoder are a possible progress in a slice of n bytes, if its open block isn't full, and the next
+-- byte's index is within the slice
 pub is-place : (e : UnbufferedEncoder) (n : ℕ) → e.taken ≤ 253 → e.index + e.taken + 1 < n → IsPlaceIn n (reached_by e)
 is-place e n short room = grind arith
 
--- there is room for a byte exactly if the byte's index is within the slice
+-- there is room for a byte if the byte's index is within the slice
 pub has-room : (e : UnbufferedEncoder) (slice : List ℕ) (byte : ℕ) → e.taken ≤ 253 → e.index + e.taken + 1 < length slice → HasRoomFor (length slice) (reached_by e) (byte ∷ [])
 has-room e slice byte short room = record { place = is-place e _ short room; fits = fits-byte slice (reached_by e) byte (omega arith) (omega arith) (omega arith) }
 
--- the converses: the open block of a possible state isn't full, and if there is room for a byte, its index is within
+-- if the progress is possible, the open block isn't full
 pub place-short : (e : UnbufferedEncoder) (n : ℕ) → IsPlaceIn n (reached_by e) → e.taken ≤ 253
 place-short e n p = grind arith
 
+-- the converse of `has-room`: if there is room for a byte, the byte's index is within the slice
 pub room-only : (e : UnbufferedEncoder) (n byte : ℕ) → HasRoomFor n (reached_by e) (byte ∷ []) → (e.taken ≤ 253) × (e.index + e.taken + 1 < n)
 room-only e n byte h = grind (arith, open_len-least)
 
--- the end of the frame with some more bytes
+-- the index at which the frame ends after some more bytes
 pub end-with : (e : UnbufferedEncoder) (bytes : List ℕ) → e.taken ≤ 253 → 0 < length bytes → end_after (reached_by e) bytes ≡ e.index + open_len (e.taken + 1) bytes
 end-with e bytes short some = grind arith

@@ -1,6 +1,6 @@
--- Lemmas on a window of a source that was copied after the open block, and whose zeros are replaced by codes one by
--- one. A zero is replaced by `Reaches-join` for the bytes before it, and by `Reaches-zero`. A window without a zero is
--- taken by `Reaches-join`.
+-- Lemmas on a window of a source that was copied after the open block (`Copied`), and whose zeros are replaced by codes
+-- one by one (`masked-first`). A zero is replaced by `Reaches-join` for the bytes before it, and by `Reaches-zero`
+-- (`masked-step`). A window without a zero is taken by `Reaches-join` (`masked-end`).
 use Rattle.std.proofs.Common.{◌≡◌, ◌≢◌, ℕ, ◌+◌, ◌-◌, ◌%◌, ◌<◌, ◌≤◌, Bool, false, true, List, ◌++◌, length, drop, take, get_or, replicate, min, suc, refl, sym, ap, ◌∙◌, subst, inl, inr, arith, length-append, length-take-le, length-drop, take_all}
 use Rattle.std.proofs.Math.ListN.{set}
 use borrow.Rule.Slice.PartMut.{put_mid}
@@ -21,13 +21,14 @@ use Rattle.cobs_bytes.proofs.bytes.MaskLemmas.{mask_behind, mask_behind-none, ma
 use Rattle.cobs.proofs.encoding.ReachLemmas.{Reaches-at, Reaches-weaker, Reaches-full, Reaches-join, Reaches-zero, Reaches-ones, Reaches-same-empty, IsNotFull, alike-first, least}
 use Rattle.cobs.proofs.encoding.TakingLemmas.{front-open, reaches-start}
 
--- the len bytes of a source at `read` were copied after the open block
+-- the `len` bytes of a source from `read` on were copied to the slice, after the open block's bytes
 pub record Copied (s : Start) (slice : List ℕ) (read len index next : ℕ) : Type 0 where
   pub inside : read + len ≤ length s.source
   pub room : whole_end s ≤ length slice
   pub reaches : Reaches s slice read index next (λ _. Unit {0})
   pub here : take len (drop next slice) ≡ take len (drop read s.source)
 
+-- `Copied` holds after these bytes are copied to index `next` of the slice
 pub copied-by : {s : Start} {slice after : List ℕ} {read len index next : ℕ} {P : Bool → Type 0} → Reaches s slice read index next P → read + len ≤ length s.source → whole_end s ≤ length slice
     → after ≡ take next slice ++ (take len (drop read s.source) ++ drop (next + len) slice) → Copied s after read len index next
 copied-by {s} {slice} {after} {read} {len} before inside fits is =
@@ -56,18 +57,22 @@ pub record CopiedWindow (s : Start) (slice : List ℕ) (read len index next zero
   pub copied : Copied s slice read len index next
   pub bits : zeros ≡ zero_mask (take len (drop read s.source))
 
+-- the window was copied, and no code is written over its zeros yet
 module _ {s : Start} {slice : List ℕ} {read len index next zeros : ℕ} (w : CopiedWindow s slice read len index next zeros) where
-  -- a zero is within the window
+  -- if the window has a zero, its first zero is within the window
   pub first-within : zeros ≢ 0 → lowest zeros < len
   first-within some = grind (arith, length-chunk, lowest-within)
 
+  -- if the window's first zero, or its end, comes before the open block is full, the codes can be written; so far, no
+  -- zero is replaced
   pub masked-start : min (lowest zeros) len < index + 255 - next → IsMasked s read len next zeros index slice
   masked-start near = grind (arith, least w.copied.reaches)
 
-  -- no zero is near enough to keep the block from being full
+  -- if the open block is full before the first zero comes, its code 255 is written, and the next block is open
   pub filled : index + 255 - next ≤ min (lowest zeros) len → read + (index + 255 - next) < length s.source
       → Reaches s (set slice index 255) (read + (index + 255 - next)) (index + 255) (index + 255 + 1) (λ noted. noted ≡ true)
   filled none more =
+      -- the number of bytes that fill the open block; by `nonzero`, none of them is a zero
       let until_full : ℕ = index + 255 - next in
       let sum : next + until_full ≡ index + 255 = omega arith in
       let long = length-chunk read len s.source w.copied.inside in
@@ -85,15 +90,17 @@ pub record WindowTaken (s : Start) (slice : List ℕ) (read len index next : ℕ
 
 -- MARKS
 
--- no zero is left in an empty mask
+-- the mask 0 has no bit, and `lowest` returns 64 for it
 pub lowest-none : (mask : ℕ) → mask ≡ 0 → lowest mask ≡ 64
 lowest-none mask none = grind (arith, trailing_of_zero)
 
+-- the first d bytes of the window are encoded
 module _ {s : Start} {slice : List ℕ} {read len index next zeros d : ℕ} (m : IsMaskedAt s read len next zeros index slice d) where
+  -- the bytes of the window that aren't encoded yet
   abbrev left : List ℕ
   left = take (len - d) (drop (read + d) s.source)
 
-  -- no zero is left
+  -- if no zero is left, the bytes that are left join the open block, and the window is taken
   pub masked-end : zeros ≡ 0 → WindowTaken s slice read len index next
   masked-end none =
       let all = lowest-none zeros none in
@@ -101,36 +108,45 @@ module _ {s : Start} {slice : List ℕ} {read len index next zeros d : ℕ} (m :
       let joined = Reaches-join m.reaches {Q = IsNotFull} m.room (len - d) (omega arith) (omega arith) nonzero m.here (grind arith) (λ z. refl) in
       grind arith
 
-  -- another byte is in the place of the open block's code
+  -- `IsMaskedAt` holds whatever byte is in the place of the open block's code
   masked-code : (byte : ℕ) → IsMaskedAt s read len next zeros index (set slice index byte) d
   masked-code byte = grind (arith, drop-set-lt, take-set, take-set-lt, length-set)
 
   -- the next zero is replaced by a code
   module _ (some : zeros ≢ 0) where
+    -- the mask has a bit for each byte of the window
     small : d + length left ≤ 64
     small = grind (arith, length-take-le, length-drop)
 
+    -- one of the bytes that are left is a zero
     some_bits : mask_behind d left ≢ 0
     some_bits e = grind arith
 
+    -- the lowest bit of the mask belongs to the first zero of the bytes that are left
     first-is : lowest zeros ≡ d + nonzero_len left
     first-is = grind (arith, lowest_left, small)
 
+    -- this zero is within the window
     first-lt : nonzero_len left < len - d
     first-lt = grind (arith, nonzero_len-lt, mask_behind-some, length-take-le, length-drop)
 
+    -- the bytes before the zero join the open block, and the zero closes it; the place of the zero becomes the place of
+    -- the next code
     pub masked-step : IsMasked s read len next (without_lowest zeros) (next + lowest zeros) (set slice index (next + lowest zeros - index))
     masked-step =
+        -- k is the index of the zero in the window, and j its index among the bytes that are left
         let k : ℕ = lowest zeros in
         let j : ℕ = nonzero_len left in
         let e = first-is in
         let lt = first-lt in
         let sum : len - d ≡ j + 1 + (len - (k + 1)) = omega arith in
+        -- `cut`: the bytes after the zero, as a part of the bytes that were left and as a part of the list
         let cut : (xs : List ℕ) (a : ℕ) → drop (j + 1) (take (len - d) (drop (a + d) xs)) ≡ take (len - (k + 1)) (drop (a + (k + 1)) xs) =
         λ xs a. ap (λ m. drop (j + 1) (take m (drop (a + d) xs))) sum ∙ drop-take (j + 1) _ _
         ∙ ap (take _) (grind (arith, drop-drop)) in
         let front = take-take j (len - d) _ (omega arith) in
         let there = mask_behind-some d left some_bits in
+        -- no byte before the zero is a zero; these bytes are in the slice (`here`)
         let nonzero = subst HasNoZero front (nonzero_len-before left there) in
         let here = sym (take-take j (len - d) _ (omega arith)) ∙ ap (take j) m.here ∙ front in
         let zero_at : get_or s.source (read + d + j) 0 ≡ 0 =
@@ -144,14 +160,16 @@ module _ {s : Start} {slice : List ℕ} {read len index next zeros d : ℕ} (m :
   pub masked-ordered : index ≤ next + lowest zeros
   masked-ordered = grind (arith, lowest-none, first-is)
 
--- the next zero is replaced, if there is one
+-- one step of the loop that writes the codes: the next zero is replaced, or nothing is replaced if no zero is left
 pub masked-first : {s : Start} {slice : List ℕ} {read len index next zeros : ℕ} → IsMasked s read len next zeros index slice → (after : List ℕ) (r : ℕ × ℕ)
     → after ≡ set slice index ((next + lowest zeros - index) % 256) → (zeros ≡ 0 → r ≡ (index, 0)) → (zeros ≢ 0 → r ≡ (next + lowest zeros, without_lowest zeros))
     → IsMasked s read len next r.1 r.0 after
 masked-first {s} {slice} {read} {len} {index} {next} {zeros} m after r is none some = elim (cases_eq zeros 0) [
+  -- no zero is left, so only the byte in the place of the open block's code changes
   | inl e ↦ (let byte : ℕ = (next + lowest zeros - index) % 256 in
       let same : IsMasked s read len next zeros index (set slice index byte) = masked-code m byte in
       rw (is, none e, ← e) same)
+  -- the code is below 256, so it is a byte
   | inr other ↦ (let byte : ℕ = next + lowest zeros - index in
       let first = first-is m other in
       let lt = first-lt m other in
@@ -159,7 +177,7 @@ masked-first {s} {slice} {read} {len} {index} {next} {zeros} m after r is none s
       rw (is, some other, code) (masked-step m other))
 ]
 
--- a source that can't fill the open block, copied
+-- a source that can't fill the open block is copied as one window, whose zeros aren't replaced yet
 pub short-copied : {source old slice : List ℕ} {r : Reached} {mask : ℕ} → 0 < r.block.code → 0 < length source → length source ≤ 32 → r.block.code + length source < 255
     → end_after r source ≤ length old → slice ≡ take (next_of r) old ++ (source ++ drop (next_of r + length source) old) → mask ≡ zero_mask source
     → IsMasked (start_with old r source) 0 (length source) (next_of r) mask r.block.index slice
@@ -174,7 +192,7 @@ short-copied {source} {old} {slice} {r} {mask} code some few short fits is bits 
     } in
     masked-start window (omega arith)
 
--- with its last window the whole source is taken
+-- after its last window, the whole source is taken
 pub window-front : {source old slice : List ℕ} {r r' : Reached} {read len index next : ℕ} → WindowTaken (start_with old r source) slice read len index next
     → read + len ≡ length source → r' ≡ place_at index (next + len - index) false → TakesFront old r source (length source) slice r'
 window-front {source} {old} {slice} {r} {r'} w last is =
@@ -182,7 +200,8 @@ window-front {source} {old} {slice} {r} {r'} w last is =
 
 -- BYTES THAT ARE TAKEN WITHOUT A MASK
 
--- n zeros, in whose place ones are written
+-- The next n bytes of the source are zeros. The code of the open block was written, and n ones from `next` on. The ones
+-- are the codes of the blocks that the zeros close and, at last, of the next open block.
 pub row-taken : {s : Start} {slice after : List ℕ} {read index next : ℕ} {P : Bool → Type 0} → Reaches s slice read index next P → next < index + 255 → whole_end s ≤ length slice → (n : ℕ)
     → 0 < n → read + n ≤ length s.source
     → take n (drop read s.source) ≡ replicate n 0 → after ≡ take next (set slice index (next - index)) ++ (replicate n 1 ++ drop (next + n) (set slice index (next - index)))
@@ -193,10 +212,13 @@ row-taken {s} {slice} {after} {read} {index} {next} r short fits n some inside z
     let sum : suc m ≡ n = omega arith in
     let coded : List ℕ = set slice index (next - index) in
     let l = length-set slice index (next - index) in
+    -- the n ones
     let ones : length {A = ℕ} (replicate n 1) ≡ n = length-replicate n 1 in
     let front_long = length-take-le next coded (omega arith) in
     let long : whole_end s ≤ length after = grind (arith, length-append, length-drop) in
     let zero = alike-first m read 0 s.source (omega arith) (grind arith) in
+    -- the first zero closes the open block (`closed`, `first`), and the other zeros close blocks without bytes
+    -- (`taken`)
     let closed = Reaches-zero r {Q = IsNotFull} fits (omega arith) zero.0 short refl in
     let front = ap (take next) is ∙ front-three coded _ next n ones (omega arith) in
     let back : drop (whole_end s) after ≡ drop (whole_end s) s.slice = grind (arith, behind-three) in

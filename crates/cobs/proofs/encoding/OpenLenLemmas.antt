@@ -1,5 +1,6 @@
--- Lemmas on the length of the encoded frame, counted from its open block. The values of that block's nonzero bytes
--- don't matter (`same_start`), so ones stand for them.
+-- Lemmas on `open_len`, the length of the encoded frame from its open block on. The values of that block's nonzero
+-- bytes don't matter (`same_start`), so ones stand for them. `Opened-len` connects this number with the length of the
+-- whole frame. The last lemmas count it byte by byte (`len-byte`, `len-zero`, `len-full`, `len-end`).
 use Rattle.std.proofs.Common.{◌≡◌, ◌≢◌, ℕ, ◌+◌, ◌-◌, ◌/◌, ◌<◌, ◌≤◌, Bool, true, List, [], ◌∷◌, ◌++◌, length, drop, take, get_or, length-drop, length-take-le, take-append-drop, replicate, arith, append-nil, append_assoc, length-append}
 use Rattle.std.proofs.lemmas.List.{drop-drop, drop_all, drop_more}
 use Rattle.std.proofs.lemmas.List.Elements.{All-append}
@@ -22,7 +23,7 @@ open_len-join code more t some nonzero =
     let both = All-append (λ byte. byte ≢ 0) front more (ones-nonzero (code - 1)) nonzero in
     grind (arith, append_assoc, same_start, ones-nonzero, length-append, length-ones)
 
--- so do the next k bytes of a source, if none of them is a zero
+-- the next k bytes of a source join the open block, if none of them is a zero
 pub open_len-run : (source : List ℕ) (read k code : ℕ) → 0 < code → read + k ≤ length source → HasNoZero (take k (drop read source))
     → open_len code (drop read source) ≡ open_len (code + k) (drop (read + k) source)
 open_len-run source read k code some within nonzero =
@@ -36,7 +37,7 @@ open_len-full t more = encoded_len-full (replicate 254 1) t (length-ones 254) (o
 pub open_len-zero : (code : ℕ) (t : List ℕ) → 0 < code → open_len code (0 ∷ t) ≡ code + (code - 1) / 254 + open_len 1 t
 open_len-zero code t some = grind (arith, length-ones, encoded_len-run, ones-nonzero)
 
--- no byte follows
+-- if no byte follows, the frame of the open block's bytes has the greatest length, because these bytes contain no zero
 pub open_len-end : (code : ℕ) → open_len code [] ≡ max_encoded_len (code - 1)
 open_len-end code = grind (arith, append-nil, length-ones, encoded_len-nonzero, ones-nonzero)
 
@@ -48,7 +49,8 @@ open_len-least code t some = grind (arith, length-append, length-ones)
 pub open_len-most : (code : ℕ) (t : List ℕ) → 0 < code → open_len code t ≤ max_encoded_len (code - 1 + length t)
 open_len-most code t some = grind (arith, length-append, length-ones, encoded_len-le)
 
--- the frame of a message that continues
+-- the length of the frame of m and the bytes t, counted from the open block of m; if the frame of m ends in a full
+-- block, t must not be empty
 pub Opened-len : {slice m : List ℕ} {index next : ℕ} {full : Bool} (t : List ℕ) → (full ≡ true → t ≢ []) → Opened slice m index next full
     → encoded_len (m ++ t) ≡ index + open_len (next - index) t
 Opened-len t more o =
@@ -56,22 +58,22 @@ Opened-len t more o =
     let longer = message_of-more o.front code code o.bytes t in
     grind (arith, length-ones, len-blocks o.front code (o.bytes ++ t) o.each, same_start, ones-nonzero)
 
--- the length of the frame, byte by byte
+-- `open_len` for the bytes of a source from index i on, as a loop over the source counts it
 module _ (bytes : List ℕ) (i : ℕ) where
-  -- all bytes are taken
+  -- no byte of the source is left
   pub len-end : (code : ℕ) → length bytes ≤ i → open_len code (drop i bytes) ≡ max_encoded_len (code - 1)
   len-end code last = grind (arith, drop_all, open_len-end)
 
   module _ (more : i < length bytes) where
-    -- a full block is closed
+    -- if bytes are left, a full block is closed
     pub len-full : (code : ℕ) → code ≡ 255 → open_len code (drop i bytes) ≡ 255 + open_len 1 (drop i bytes)
     len-full code is = grind (arith, open_len-full, length-drop)
 
-    -- a byte joins the block
+    -- a nonzero byte at index i joins the open block
     pub len-byte : (code : ℕ) → 0 < code → get_or bytes i 0 ≢ 0 → open_len code (drop i bytes) ≡ open_len (code + 1) (drop (i + 1) bytes)
     len-byte code some other =
         rw (drop_more bytes i 0 more) (open_len-join code (get_or bytes i 0 ∷ []) _ some (one-nonzero _ other))
 
-    -- a zero closes the open block
+    -- a zero at index i closes the open block
     pub len-zero : (code : ℕ) → 0 < code → get_or bytes i 0 ≡ 0 → open_len code (drop i bytes) ≡ code + (code - 1) / 254 + open_len 1 (drop (i + 1) bytes)
     len-zero code some is = grind (arith, drop_more, open_len-zero)

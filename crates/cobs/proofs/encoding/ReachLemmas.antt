@@ -1,6 +1,6 @@
--- Lemmas on how many bytes of a source the core of the encoder has taken, and on how it continues: nonzero bytes join
--- the open block, and a zero or the 254th byte closes it. By `OpenedLemmas` for the slice, and by `OpenLenLemmas` for
--- the end of the frame.
+-- Lemmas on `Reaches`, which says how many bytes of a source the core of the encoder has encoded, and on how it
+-- continues: nonzero bytes join the open block (`Reaches-join`), and a zero (`Reaches-zero`) or the 254th byte
+-- (`Reaches-full`) closes it. By `OpenedLemmas` for the slice, and by `OpenLenLemmas` for the end of the frame.
 use Rattle.std.proofs.Common.{◌≡◌, ◌≢◌, ℕ, ◌+◌, ◌-◌, ◌<◌, ◌≤◌, Bool, true, false, List, ◌∷◌, ◌++◌, length, drop, take, get_or, replicate, zero, suc, refl, sym, arith, inl, inr, ◌⊎◌, append-nil, append_assoc, length-take-le, length-drop}
 use Rattle.std.proofs.Math.ListN.{set}
 use Rattle.std.proofs.Math.Seq.{take-add}
@@ -11,17 +11,19 @@ use Rattle.cobs.proofs.encoding.OpenedLemmas.{Opened-code, Opened-same-empty, Op
 use Rattle.cobs.proofs.encoding.OpenLenLemmas.{len-end, open_len-full, open_len-run, open_len-zero, open_len-least}
 use Rattle.cobs.specs.Internal.Reaches.{HadTaken, Opened, Reaches, Start, whole_end}
 
--- the same places, by other names
+-- `Reaches` also holds for equal numbers and an equal slice that are written in another way, and for a weaker property
+-- Q
 pub Reaches-at : {s : Start} {slice slice' : List ℕ} {pos pos' index index' next next' : ℕ} {P Q : Bool → Type 0} → slice ≡ slice' → pos ≡ pos' → index ≡ index' → next ≡ next'
     → ((full : Bool) → P full → Q full) → Reaches s slice pos index next P → Reaches s slice' pos' index' next' Q
 Reaches-at s p i n weaker r = grind arith
 
+-- the first `pos` bytes of the source are encoded
 module _ {s : Start} {slice : List ℕ} {pos index next : ℕ} {P : Bool → Type 0} (r : Reaches s slice pos index next P) where
-  -- the rest of the source needs at least as many bytes
+  -- each byte that is left of the source needs at least one byte before the end of the frame
   pub least : next + (length s.source - pos) ≤ whole_end s
   least = grind (arith, length-drop, open_len-least)
 
-  -- a weaker fact about the last block
+  -- the property P of the last block can be replaced by a weaker property Q
   pub Reaches-weaker : {Q : Bool → Type 0} → ((full : Bool) → P full → Q full) → Reaches s slice pos index next Q
   Reaches-weaker weaker = grind arith
 
@@ -30,12 +32,15 @@ module _ {s : Start} {slice : List ℕ} {pos index next : ℕ} {P : Bool → Typ
       → drop (whole_end s) slice' ≡ drop (whole_end s) s.slice → Reaches s slice' pos index next P
   Reaches-same-empty slice' empty front back = grind (arith, Opened-same-empty)
 
-  -- another byte in the place of the open block's code
+  -- the byte in the place of the open block's code doesn't matter
   pub Reaches-code : (x : ℕ) → Reaches s (set slice index x) pos index next P
   Reaches-code x = grind (arith, drop-set-lt, Opened-code)
 
+  -- the frame of the whole source fits the slice
   module _ {Q : Bool → Type 0} (fits : whole_end s ≤ length slice) where
-    -- k bytes that are in place join the open block
+    -- The next k bytes of the source, which aren't zeros and are already in the slice, join the open block. The last
+    -- two premises say that the new property Q holds: it follows from P if k is 0, and otherwise the frame doesn't end
+    -- in a full block.
     pub Reaches-join : (k : ℕ) → pos + k ≤ length s.source → next + k ≤ index + 255 → HasNoZero (take k (drop pos s.source)) → take k (drop next slice) ≡ take k (drop pos s.source)
         → ((full : Bool) → k ≡ 0 → P full → Q full) → (0 < k → Q false) → Reaches s slice (pos + k) index (next + k) Q
     Reaches-join k within short nonzero here none some = record {
@@ -50,25 +55,30 @@ module _ {s : Start} {slice : List ℕ} {pos index next : ℕ} {P : Bool → Typ
       taken = λ m h. by_count (cases_eq k 0) m (r.taken m h);
     }
       where
+        -- the k bytes
         bytes : List ℕ
         bytes = take k (drop pos s.source)
 
+        -- there are k of them
         long : length bytes ≡ k
         long = grind (arith, length-take-le, length-drop)
 
+        -- the field `taken`, for no byte (k is 0) and for one or more bytes
         by_count : (k ≡ 0) ⊎ (k ≢ 0) → (m : List ℕ) → (full : Bool) × P full × Opened slice (m ++ take pos s.source) index next full
             → (full : Bool) × Q full × Opened slice (m ++ take (pos + k) s.source) index (next + k) full
         by_count (inl is) m t = grind arith
         by_count (inr other) m t =
+            -- more than 0 bytes join the open block (`joined`); there is room for them (`least'`)
             let l = long in
             let least' = least in
             let joined = Opened-join t.2 bytes (grind arith) nonzero (omega arith) (omega arith) (rw l here) in
             grind (arith, append_assoc, take-add)
 
-    -- a zero closes the open block
+    -- if the next byte of the source is a zero, the open block's code is written, and the next block is open
     pub Reaches-zero : pos < length s.source → get_or s.source pos 0 ≡ 0 → next < index + 255 → Q false → Reaches s (set slice index (next - index)) (pos + 1) next (next + 1) Q
     Reaches-zero more is open' not_full =
         let least' = least in
+        -- `left`: the bytes that are left begin with the zero
         let left : drop pos s.source ≡ 0 ∷ drop (pos + 1) s.source = grind (arith, drop_more) in
         let zero_len = open_len-zero (next - index) (drop (pos + 1) s.source) (omega arith) in
         record {
@@ -83,12 +93,13 @@ module _ {s : Start} {slice : List ℕ} {pos index next : ℕ} {P : Bool → Typ
               (false, not_full, grind (arith, append_assoc, take_more));
         }
 
-  -- the state after a full block, once its code is written
+  -- if the open block has 254 bytes, its code 255 closes it, and the frame then ends in a full block
   pub full-taken : next ≡ index + 255 → next ≤ length slice → (m : List ℕ) → HadTaken s m → Opened (set slice index 255) (m ++ take pos s.source) next (next + 1) true
   full-taken full fits m h =
       let t = r.taken m h in
       grind (arith, append-nil, Opened-close t.2 255 fits (sym full))
 
+  -- if more bytes follow, the code 255 closes the open block that has 254 bytes, and the next block is open
   pub Reaches-full : {Q : Bool → Type 0} → pos < length s.source → next ≡ index + 255 → whole_end s ≤ length slice → Q true → Reaches s (set slice index 255) pos next (next + 1) Q
   Reaches-full more full fits is_full =
       grind (arith, drop-set-lt, full-taken, open_len-full (drop pos s.source) (grind (arith, length-drop)))
@@ -97,8 +108,8 @@ module _ {s : Start} {slice : List ℕ} {pos index next : ℕ} {P : Bool → Typ
   pub ends : pos ≡ length s.source → whole_end s ≡ next
   ends last = grind (arith, len-end)
 
--- The frame doesn't end in a full block (`ends_in_full`): the open block has a byte, or the block before it isn't full, or
--- there is no block before it. An open block with 254 bytes isn't closed yet, so it doesn't count as full here.
+-- The frame doesn't end in a full block (`ends_in_full`): the open block has a byte, or the block before it isn't full,
+-- or there is no block before it. An open block with 254 bytes isn't closed yet, so it doesn't count as full here.
 abbrev pub IsNotFull : Bool → Type 0
 IsNotFull full = full ≡ false
 
@@ -113,8 +124,10 @@ pub Reaches-ones : (n : ℕ) {s : Start} {slice : List ℕ} {pos index : ℕ} �
 Reaches-ones zero r within fits zeros ones = grind arith
 Reaches-ones (suc n) {s} {slice} {pos} {index} r within fits zeros ones =
     let room = least r in
+    -- the first of the zeros, and the first of the ones in the slice
     let zero = alike-first n pos 0 s.source within zeros in
     let one = alike-first (suc n) index 1 slice (omega arith) ones in
+    -- `same`: the code of the first block is the one that is already in its place
     let code : index + 1 - index ≡ get_or slice index 0 = omega arith in
     let same : set slice index (index + 1 - index) ≡ slice = grind (arith, set-get_or) in
     let closed = rw same at (Reaches-zero r {Q = IsNotFull} fits (omega arith) zero.0 (omega arith) refl) in

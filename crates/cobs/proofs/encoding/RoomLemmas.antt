@@ -1,5 +1,6 @@
--- Lemmas on the length of the frame from its open block on, counted run by run, as `fits` counts it. The bytes of a run
--- make the open block's code greater, also beyond 255, and `open_len-zero` counts the run's blocks at the zero after it.
+-- Lemmas on the length of the frame from its open block on, counted run by run, as `fits` counts it: `skipped` is its
+-- step. The bytes of a run make the open block's code greater, also beyond 255, and `open_len-zero` counts the run's
+-- blocks at the zero after it. `encoded_len-longer` says that a longer message has no shorter frame.
 use Rattle.std.proofs.Common.{◌≡◌, ◌≢◌, ℕ, ◌+◌, ◌<◌, ◌≤◌, List, [], ◌∷◌, ◌++◌, length, drop, get_or, arith, length-take-le, length-drop, take-append-drop}
 use Rattle.std.proofs.lemmas.List.{drop-drop, drop_more}
 use Rattle.cobs.specs.Length.{encoded_len, open_len}
@@ -13,12 +14,14 @@ pub ruleset counted = (open_len-least, open_len-most)
 open_len-byte : (code b : ℕ) (t : List ℕ) → 0 < code → b ≢ 0 → open_len code (b ∷ t) ≡ open_len (code + 1) t
 open_len-byte code b t some other = open_len-join code (b ∷ []) t some (one-nonzero b other)
 
--- bytes that can't fill a block, and the zero after them
+-- if some bytes can't fill the open block, they and the zero after them add as many bytes to the frame as they are,
+-- whether they contain zeros or not
 len-skip : (code : ℕ) (bytes t : List ℕ) → 0 < code → code + length bytes < 255 → open_len code (bytes ++ 0 ∷ t) ≡ code + length bytes + open_len 1 t
 len-skip code [] t some few = omega (arith, open_len-zero code t some)
 len-skip code (b ∷ bytes) t some few = grind (arith, open_len-zero, open_len-byte, len-skip 1 bytes t, len-skip (code + 1) bytes t)
 
--- the zero at `read + k` is the last zero of those bytes that could fill the open block
+-- k bytes from `read` on can't fill the open block, and a zero follows them: these bytes need k bytes of the frame,
+-- even if some of them are zeros, and the block after the zero is open
 pub skipped : (source : List ℕ) (read code k : ℕ) → 0 < code → read + k < length source → code + k < 255 → get_or source (read + k) 0 ≡ 0
     → open_len code (drop read source) ≡ code + k + open_len 1 (drop (read + (k + 1)) source)
 skipped source read code k some more few is =
@@ -30,5 +33,6 @@ open_len-longer code [] [] some = omega arith
 open_len-longer code [] (b ∷ d) some = grind (arith, open_len-end, open_len-zero, open_len-byte, open_len-longer (code + 1) [] d)
 open_len-longer code (b ∷ m) d some = grind (arith, open_len-zero, open_len-byte, open_len-longer 1 m d, open_len-longer (code + 1) m d)
 
+-- the encoded frame of a message isn't shorter after bytes are appended to the message
 pub encoded_len-longer : (m d : List ℕ) → encoded_len m ≤ encoded_len (m ++ d)
 encoded_len-longer m d = open_len-longer 1 m d (omega arith)

@@ -1,5 +1,6 @@
--- Lemmas on how the core of the encoder takes a source, step by step: `front-taken` derives `TakesFront` from
--- `Reaches`, and `front-next` joins two steps.
+-- Lemmas on how the core of the encoder takes a source, step by step: `front-taken` derives `TakesFront`, the effect of
+-- a step, from `Reaches`, and `front-next` joins two steps. At the end, `all-after` and `start-after` say that the
+-- encoder has taken the whole source.
 use Rattle.std.proofs.Common.{◌≡◌, ◌≢◌, get_or, ℕ, ◌+◌, ◌<◌, ◌≤◌, Bool, true, false, List, [], ◌∷◌, ◌++◌, length, drop, take, refl, ◌∙◌, inl, inr, arith, append-nil, append_assoc, length-drop, take_all}
 use Rattle.std.proofs.Math.ListN.{set}
 use Rattle.std.proofs.Math.Seq.{take-add}
@@ -15,6 +16,7 @@ use Rattle.cobs.proofs.encoding.OpenLenLemmas.{open_len-least, open_len-most}
 use Rattle.cobs.proofs.encoding.ReachLemmas.{IsNotFull, Reaches-at, Reaches-full, Reaches-join, ends, full-taken, least}
 use Rattle.cobs.specs.Internal.Reaches.{HadTaken, Reaches, Start, start_with, whole_end}
 
+-- if at least one byte follows, the end of the frame is counted with `open_len`
 pub after-some : (r : Reached) (bytes : List ℕ) → 0 < length bytes → end_after r bytes ≡ r.block.index + open_len r.block.code bytes
 after-some r bytes h = grind arith
 
@@ -25,13 +27,15 @@ pub ruleset short_room = (after-some, open_len-most, cases_Bool)
 pub next-least : (r : Reached) (source : List ℕ) → 0 < r.block.code → 0 < length source → next_of r + length source ≤ end_after r source
 next-least r source code some = grind (arith, open_len-least)
 
+-- at the start of a call, no byte of the source is encoded yet
 pub reaches-start : {source old : List ℕ} {r : Reached} → 0 < length source → 0 < r.block.code → r.block.code < 255
     → Reaches (start_with old r source) old 0 r.block.index (next_of r) (λ _. Unit {0})
 unfolding HadTaken
 reaches-start some code short = grind (arith, append-nil, from_after)
 
--- a byte is written after the open block's bytes
+-- a byte of the source is written after the open block's bytes
 module _ {s : Start} {slice : List ℕ} {read index next : ℕ} {P : Bool → Type 0} (byte : ℕ) (more : read < length s.source) (r : Reaches s slice read index next P) where
+  -- this doesn't change what has been encoded
   pub written : Reaches s (set slice next byte) read index next P
   written = grind (arith, common_steps)
 
@@ -40,31 +44,35 @@ module _ {s : Start} {slice : List ℕ} {read index next : ℕ} {P : Bool → Ty
   joined is other short fits =
       let room = least r in
       let long = length-set slice next byte in
+      -- `one` and `here`: the next byte of the source is this byte, and is now in the slice
       let one : take 1 (drop read s.source) ≡ byte ∷ [] = grind (arith, drop_more) in
       let here : take 1 (drop next (set slice next byte)) ≡ take 1 (drop read s.source) = grind (arith, drop-set) in
       let nonzero : HasNoZero (take 1 (drop read s.source)) = rw one (grind arith) in
       Reaches-join written (omega arith) 1 (omega arith) (omega arith) nonzero here (grind arith) (λ z. refl)
 
--- the end of a step
+-- a step ends: `TakesFront` follows from `Reaches`
 module _ {source old slice : List ℕ} {r r' : Reached} (fits : end_after r source ≤ length slice) where
-  -- the bytes so far are taken, unless they are the whole source and end in a full block
+  -- the step has taken the first `pos` bytes, if the open block isn't full; if these are all bytes of the source, the
+  -- frame must not end in a full block
   pub front-taken : {pos index next code : ℕ} {full : Bool} → Reaches (start_with old r source) slice pos index next (λ noted. noted ≡ full) → next < index + 255
       → (pos ≡ length source → full ≡ false) → index + code ≡ next → r' ≡ place_at index code full → TakesFront old r source pos slice r'
   unfolding HadTaken
   front-taken {pos} {index} {next} {code} {full} s short last coded is =
       let room = least s in
       let place : Reached = place_at index code full in
+      -- `end`: the end of the frame is the same, counted from the new progress, whether bytes are left or not
       let end : end_after place (drop pos source) ≡ end_after r source = elim (cases_lt pos (length source)) [
         | inl more ↦ grind (arith, after-some, length-drop)
         | inr none ↦ (let all : pos ≡ length source = omega arith in rw (drop_all pos source (omega arith), last all, ends s all) (omega arith))
       ] in
       grind (arith, to_after)
 
+  -- the step has taken the first `pos` bytes, and the frame doesn't end in a full block
   pub front-open : {pos index next code : ℕ} → Reaches (start_with old r source) slice pos index next IsNotFull → next < index + 255 → index + code ≡ next
       → r' ≡ place_at index code false → TakesFront old r source pos slice r'
   front-open s short coded is = front-taken s short (λ all. refl) coded is
 
-  -- the whole source is taken, and its last byte filled the open block
+  -- the step has taken the whole source, and its last byte filled the open block, whose code 255 is now written
   front-full : {pos index : ℕ} {P : Bool → Type 0} → Reaches (start_with old r source) slice pos index (index + 255) P → pos ≡ length source
       → r' ≡ place_at (index + 255) 1 true → TakesFront old r source pos (set slice index 255) r'
   unfolding HadTaken
@@ -78,7 +86,7 @@ module _ {source old slice : List ℕ} {r r' : Reached} (fits : end_after r sour
         rest = grind (arith, drop-set-lt);
       })
 
--- a byte filled the open block
+-- a byte filled the open block, whose code 255 is now written; bytes may be left or not
 pub front-filled : {source old slice : List ℕ} {r r' : Reached} {pos index next code : ℕ} {P : Bool → Type 0} → end_after r source ≤ length slice
     → next ≡ index + 255 → Reaches (start_with old r source) slice pos index next P
     → code ≡ 1 → r' ≡ place_at next code true → TakesFront old r source pos (set slice index 255) r'
@@ -91,49 +99,60 @@ front-filled {source} {old} {slice} {r} {r'} {pos} {index} fits full s one is =
 
 -- a step, and then another step on the rest of the source
 module _ {slice slice' source left : List ℕ} {r r' : Reached} (n : ℕ) (is : left ≡ drop n source) (a : TakesFront slice r source n slice' r') where
-  -- the remaining bytes fit
+  -- the end of the frame, counted after the first step, is the same as before it
   pub left-end : end_after r' left ≡ end_after r source
   left-end = grind arith
 
+  -- the two steps together have taken n + k bytes
   pub front-next : {slice'' : List ℕ} {r'' : Reached} (k : ℕ) → TakesFront slice' r' left k slice'' r'' → TakesFront slice r source (n + k) slice'' r''
   front-next k b = grind (arith, take-add, append_assoc, drop-drop)
 
 -- the whole source is taken
 module _ {slice slice' source : List ℕ} {r r' : Reached} (t : TakesFront slice r source (length source) slice' r') where
+  -- the encoder has then taken m and the source
   pub all-after : (m : List ℕ) → CobsEncoderAfter slice r m → CobsEncoderAfter slice' r' (m ++ source)
   all-after m h = grind (arith, take_all)
 
+  -- the frame ends at the index that was computed before
   pub all-end : end_of r' ≡ end_after r source
   all-end = grind (arith, drop_all)
 
+  -- the bytes of the slice after the frame are as they were
   pub all-rest : drop (end_of r') slice' ≡ drop (end_of r') slice
   all-rest = rw all-end t.rest
 
 -- an encoder that has taken nothing
 module _ (slice : List ℕ) (r : Reached) (is : r ≡ place_at 0 1 false) (some : 0 < length slice) where
+  -- after a source is encoded, the frame will end at the length of the source's encoded frame
   pub start-fits : (source : List ℕ) → end_after r source ≡ encoded_len source
   start-fits source = grind arith
 
+  -- the progress is possible in the slice
   pub start-place : IsPlaceIn (length slice) r
   start-place = grind arith
 
+  -- the encoder has taken the empty message
   pub start-taken : CobsEncoderAfter slice r []
   start-taken = rw is (after-nothing slice some)
 
   -- such an encoder has taken its whole source
   module _ {slice' source : List ℕ} {r' : Reached} (t : TakesFront slice r source (length source) slice' r') where
+    -- the encoder's message is the source
     pub start-after : CobsEncoderAfter slice' r' source
     start-after = all-after t [] start-taken
 
+    -- the frame ends at the length of the source's encoded frame
     pub start-len : end_of r' ≡ encoded_len source
     start-len = all-end t ∙ start-fits source
 
--- the rule sets for the tactics of three kinds of functions: those that take a source in steps, those that begin with a
--- new encoder, and the encoders
+-- the rule set for the tactics of the functions that take a source in steps, such as `append`
 pub ruleset next_steps = (next-least, left-end, front-next, take_rest)
 
+-- the rule set for the tactics of the functions that begin with a new encoder, such as `encode_long`
 pub ruleset from_start = (start-fits, start-place, left-end, all-rest, take_rest)
 
+-- the rule set for the tactics of the methods of streaming encoders, such as `push`
 pub ruleset encoder_steps = (end-is, after-end, all-after, all-rest)
 
+-- the rule set for the tactics of `push_few`
 pub ruleset few_steps = (all-after, all-rest, after-some, open_len-most)

@@ -18,33 +18,38 @@ use Rattle.cobs.proofs.format.JoinLemmas.{front_frame}
 runs_of_each : map runs ((10 ∷ 11 ∷ 0 ∷ 12 ∷ []) ∷ [] ∷ (0 ∷ 0 ∷ []) ∷ []) ≡ (2 ∷ 1 ∷ []) ∷ (0 ∷ []) ∷ (0 ∷ 0 ∷ 0 ∷ []) ∷ []
 runs_of_each = refl
 
--- the lengths of frames of ones, and of ones and a zero
+-- the lengths of the frames of messages of ones
 lengths_of_ones : map (λ n. encoded_len (replicate n 1)) (0 ∷ 1 ∷ 253 ∷ 254 ∷ 255 ∷ 508 ∷ 509 ∷ []) ≡ 1 ∷ 2 ∷ 254 ∷ 255 ∷ 257 ∷ 510 ∷ 512 ∷ []
 lengths_of_ones = refl
 
+-- the lengths of the frames of messages of ones, each with a zero after the ones
 lengths_before_zero : map (λ n. encoded_len (replicate n 1 ++ 0 ∷ [])) (0 ∷ 1 ∷ 253 ∷ 254 ∷ 255 ∷ 508 ∷ []) ≡ 2 ∷ 3 ∷ 255 ∷ 257 ∷ 258 ∷ 512 ∷ []
 lengths_before_zero = refl
 
--- a zero between two runs
+-- the first block of the frame of the message 10 11 0 12, which has a zero between two runs
 first_block : IsBlock (3 ∷ 10 ∷ 11 ∷ [])
 first_block = grind arith
 
+-- the last block of this frame
 last_block : IsBlock (2 ∷ 12 ∷ [])
 last_block = grind arith
 
+-- the encoded frame of this message consists of the two blocks
 frame_between : IsEncodedFrame (3 ∷ 10 ∷ 11 ∷ 2 ∷ 12 ∷ []) (10 ∷ 11 ∷ 0 ∷ 12 ∷ [])
 frame_between = record {
   reads = Reads-cons (3 ∷ 10 ∷ 11 ∷ []) (2 ∷ 12 ∷ []) (12 ∷ []) first_block (record { blocks = (2 ∷ 12 ∷ []) ∷ []; frame = block-frame (2 ∷ 12 ∷ []) last_block; message = refl });
   canonical = IsCanonical-cons (3 ∷ 10 ∷ 11 ∷ []) (2 ∷ 12 ∷ []) first_block (λ full. cc) (IsCanonical-block (2 ∷ 12 ∷ []) last_block);
 }
 
--- the block of the 254 ones
+-- the full block of 254 ones
 abbrev block_of_ones : List ℕ
 block_of_ones = 255 ∷ replicate 254 1
 
+-- it is a block
 ones_block : IsBlock block_of_ones
 ones_block = (refl, omega arith, All-replicate (λ byte. byte ≢ 0) 254 1 (λ e. omega arith))
 
+-- this block with the lone block after it is a frame of these two blocks
 longer_blocks : IsFrameOf (block_of_ones ++ lone_block) (block_of_ones ∷ lone_block ∷ [])
 longer_blocks = grind (arith, ones_block)
 
@@ -72,10 +77,12 @@ outcomes = (refl, refl)
 abbrev beyond_bytes : List ℕ
 beyond_bytes = 256 ∷ replicate 255 1
 
+-- no byte of this list's last part is missing
 beyond_whole : is_whole beyond_bytes ≡ true
 unfolding parts parts_after is_whole last_part
 beyond_whole = refl
 
+-- but the list isn't a frame; so `law_1` needs its premise that each number is below 256
 beyond_no_frame : IsFrame beyond_bytes → ⊥
 unfolding parts parts_after
 beyond_no_frame (m, r) =
@@ -98,12 +105,13 @@ one_frame_between f r = ⊎_elim
 
 -- ANOTHER SENTINEL
 
+-- the frame of 10 11 0 12 after an XOR with the sentinel 10: its byte 10 is now 0
 sentinel_10 : xor_each 10 (3 ∷ 10 ∷ 11 ∷ 2 ∷ 12 ∷ []) ≡ 9 ∷ 0 ∷ 1 ∷ 8 ∷ 6 ∷ []
 sentinel_10 = refl
 
 -- FRONTS
 
--- a front that ends between two blocks
+-- a front that ends between two blocks is a frame
 front_is_frame : IsFrame (3 ∷ 10 ∷ 11 ∷ [])
 unfolding parts parts_after
 front_is_frame =
@@ -111,7 +119,7 @@ front_is_frame =
     let blocks = sym (parts-frame (3 ∷ 10 ∷ 11 ∷ 2 ∷ 12 ∷ []) r.blocks r.frame) in
     (front_frame (3 ∷ 10 ∷ 11 ∷ []) (2 ∷ 12 ∷ []) (10 ∷ 11 ∷ 0 ∷ 12 ∷ []) r (λ e. cc)).1 ((3 ∷ 10 ∷ 11 ∷ []) ∷ [], (2 ∷ 12 ∷ []) ∷ [], blocks, refl)
 
--- fronts that end inside a block
+-- fronts that end inside a block aren't frames
 fronts_no_frames : (IsFrame (3 ∷ 10 ∷ []) → ⊥) × (IsFrame (3 ∷ 10 ∷ 11 ∷ 2 ∷ []) → ⊥)
 unfolding parts parts_after is_whole last_part
 fronts_no_frames = (λ (m, r). true≢false (sym (frame_whole (3 ∷ 10 ∷ []) m r)), λ (m, r). true≢false (sym (frame_whole (3 ∷ 10 ∷ 11 ∷ 2 ∷ []) m r)))
@@ -123,6 +131,7 @@ first_pieces : (first_piece (2 ∷ 5 ∷ 0 ∷ 9 ∷ []) ≡ Some (2 ∷ 5 ∷ [
 unfolding first_piece head
 first_pieces = (refl, refl)
 
+-- a piece after leading zeros is the first piece, but `head` is then empty; zeros alone have no piece
 behind_zeros : (first_piece (0 ∷ 0 ∷ 2 ∷ 5 ∷ 0 ∷ 9 ∷ []) ≡ Some (2 ∷ 5 ∷ [])) × (head (0 ∷ 0 ∷ 2 ∷ 5 ∷ 0 ∷ 9 ∷ []) ≡ []) × (first_piece (0 ∷ 0 ∷ []) ≡ None)
 unfolding first_piece head
 behind_zeros = grind arith

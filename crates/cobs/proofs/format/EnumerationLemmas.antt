@@ -1,6 +1,7 @@
--- All frames of a message: its encoded frame and, if the message ends in a full run, that frame followed by the lone
--- block. An encoder reaches an open frame of each message (`after_all`), so each message has an encoded frame, and every
--- other frame of the message has the same blocks and the lone block (`same_blocks`).
+-- The frames of a message (`all_frames`): its encoded frame and, if the message ends in a full run, that frame followed
+-- by the lone block. Each message has an encoded frame (`encoded_frame`), because an encoder reaches an open frame of
+-- it (`after_all`). Every other frame of the message has the same blocks and the lone block (`same_blocks`). An encoded
+-- frame ends in a full block exactly if its message ends in a full run (`ends_in_full`).
 use Rattle.std.proofs.Common.{◌≡◌, ◌≢◌, ℕ, zero, suc, ◌+◌, ◌%◌, ◌<◌, ◌↔◌, List, [], ◌∷◌, ◌++◌, length, map, refl, ap, ◌∙◌, arith, append-nil, append_assoc, length-append, inl, inr, ⊎_elim}
 use Rattle.std.proofs.lemmas.List.Folds.{concat-append}
 use Rattle.std.proofs.lemmas.List.{length_push}
@@ -19,12 +20,14 @@ use Rattle.cobs.proofs.format.UniqueLemmas.{IsEncodedFrame-shorter, len-blocks, 
 
 -- A MESSAGE THAT ENDS IN A FULL RUN
 
+-- a zero at the end of a message adds one stretch, which is empty
 stretches-zero : (m : List ℕ) → stretches (m ++ 0 ∷ []) ≡ stretches m ++ [] ∷ []
 stretches-zero [] = refl
 stretches-zero (zero ∷ m) = grind (arith, stretches-zero m)
 stretches-zero (suc b ∷ m) = grind (arith, some_stretch, stretches-zero m)
 
--- one more empty run makes a full run at the end count one block more
+-- The lists `parts` are the stretches of a message. One more empty stretch adds a full block exactly if the last
+-- stretch has a positive length that is divisible by 254.
 runs-zero : (parts : List (List ℕ)) → parts ≢ [] → (full_blocks (map length (parts ++ [] ∷ [])) ≡ full_blocks (map length parts) + 1)
     ↔ ((0 < last_number (map length parts)) × (last_number (map length parts) % 254 ≡ 0))
 runs-zero [] some = absurd (some refl)
@@ -40,13 +43,14 @@ pub ends_in_full : (g m : List ℕ) (e : IsEncodedFrame g m) → IsFull (last_of
 ends_in_full g m e =
     let r = e.reads in
     let end = shorter_end r.blocks r.frame.some r.frame.each (IsEncodedFrame-shorter g m e) in
+    -- `long` and `longer` are the lengths of the encoded frames of m, and of m and a zero, counted block by block
     let long = len-blocks end.front end.code end.bytes end.each end.apart in
     let longer = len-blocks end.front end.code (end.bytes ++ 0 ∷ []) end.each (λ full e. omega (arith, ap length e, length-append end.bytes (0 ∷ []))) in
     grind (arith, full_run-len, message_of-more, encoded_len-short, encoded_len-run, last_of-push)
 
 -- EACH MESSAGE HAS AN ENCODED FRAME
 
--- a byte after a message that an encoder has taken
+-- an encoder that has taken m can take one more byte b; its open block is then `next_open state b`
 pub EncoderAfter-push : (state : OpenBlock) (m : List ℕ) (b : ℕ) → EncoderAfter state m → EncoderAfter (next_open state b) (m ++ b ∷ [])
 EncoderAfter-push state m zero (f, o) = let r = open-zero (f, o, (0, refl)) 0 in (r.0, r.1)
 EncoderAfter-push state m (suc b) (f, o) = ⊎_elim
@@ -54,10 +58,12 @@ EncoderAfter-push state m (suc b) (f, o) = ⊎_elim
     (λ (room : state.code ≢ 254). grind (arith, open-more (f, o, (0, refl)) (suc b) (λ e. omega arith) room))
     (grind arith)
 
+-- an encoder that has taken m can take all bytes of `more`, one after another
 after_all : (more m : List ℕ) (state : OpenBlock) → EncoderAfter state m → (next : OpenBlock) × EncoderAfter next (m ++ more)
 after_all [] m state h = grind (arith, append-nil)
 after_all (b ∷ more) m state h = grind (arith, EncoderAfter-push, append_assoc, after_all more (m ++ b ∷ []) (next_open state b))
 
+-- each message has an encoded frame, which follows from the open frame of an encoder that has taken the whole message
 pub encoded_frame : (m : List ℕ) → (f : List ℕ) × IsEncodedFrame f m
 encoded_frame m =
     let r = after_all m [] (record { index = 0; code = 1 }) (lone_block, IsOpenFrame-start) in
@@ -65,7 +71,8 @@ encoded_frame m =
 
 -- ALL FRAMES OF A MESSAGE
 
--- a frame of a message is one of the two, depending on its blocks
+-- each frame of a message is one of the two that `IsFrameFor` names: `same_blocks` compares its blocks with the blocks
+-- of the encoded frame
 frames_of : (f m : List ℕ) → Reads f m → IsFrameFor f m
 frames_of f m r =
     let (g, e) = encoded_frame m in
@@ -78,15 +85,17 @@ frames_of f m r =
       )
     ]
 
--- each of the two is a frame of the message; the second is `inr`: the message ends in a full run, and the lone block adds
--- no byte to it
+-- each list that `IsFrameFor` names is a frame of the message. The second list (`inr`) is one because the message ends
+-- in a full run, so the lone block adds no byte to the message.
 frames_from : (f m : List ℕ) → IsFrameFor f m → Reads f m
 frames_from f m (inl e) = e.reads
 frames_from f m (inr (x, (g, e, is))) =
     let full = (ends_in_full g m e).1 x in
+    -- the encoded frame ends in a full block, whose joint is empty
     let message : m ++ joint (last_of e.reads.blocks) ++ [] ≡ m = grind (arith, append-nil) in
     grind (arith, Reads-append, lone_block-reads)
 
+-- the main lemma, which `law_3` states
 pub all_frames : (f m : List ℕ) → Reads f m ↔ IsFrameFor f m
 all_frames f m = (frames_of f m, frames_from f m)
 
@@ -96,15 +105,18 @@ length-second f m e x = length_push f 1 ∙ ap (λ n. n + 1) (length-encoded f m
 
 -- AN OPEN FRAME
 
+-- an open frame of m is a frame of m
 abbrev open_reads : (f m : List ℕ) (index code : ℕ) → IsOpenFrame f m index code → Reads f m
 open_reads f m index code o = record { blocks = o.front ++ (code ∷ o.bytes) ∷ []; frame = o.frame; message = o.message }
 
+-- if m doesn't end in a full run, an open frame of m is the encoded frame of m
 pub open_shorter : (f m : List ℕ) (index code : ℕ) → IsOpenFrame f m index code → (EndsInFullRun m → ⊥) → IsEncodedFrame f m
 open_shorter f m index code o other = ⊎_elim (λ e. e) (grind arith) (frames_of f m (open_reads f m index code o))
 
+-- if m ends in a full run, an open frame of m is the encoded frame of m followed by the lone block
 pub open_longer : (f m : List ℕ) (index code : ℕ) → IsOpenFrame f m index code → EndsInFullRun m → (g : List ℕ) × IsEncodedFrame g m × (f ≡ g ++ lone_block)
 open_longer f m index code o x = ⊎_elim
-    -- the encoded frame of such a message ends in a full block
+    -- the encoded frame of such a message ends in a full block, but the last block of an open frame isn't full
     (λ e. grind (arith, last_of-push, (ends_in_full f m (record { reads = open_reads f m index code o; canonical = e.canonical })).1 x))
     (λ w. w.1)
     (frames_of f m (open_reads f m index code o))

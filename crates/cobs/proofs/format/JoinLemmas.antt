@@ -1,5 +1,7 @@
--- Frames joined are a frame. A front of a frame that is a frame ends at the end of a block, because the parts of a list
--- are the blocks of its only frame (`parts-frame`).
+-- Two frames end to end are a frame (`Reads-append`). A front of a frame is a frame exactly if it ends at the end of a
+-- block (`front_frame`), and its message is then a front of the frame's message (`front_message`). All three hold
+-- because the parts of a list are the blocks of its only frame (`parts-frame`), and the message of two lists of blocks
+-- is known (`message_of-append`).
 use Rattle.std.proofs.Common.{◌≡◌, ◌≢◌, ℕ, ◌↔◌, List, [], ◌∷◌, ◌++◌, refl, ap, ◌∙◌, length, arith, append-nil, length-append, append_assoc}
 use Rattle.std.proofs.lemmas.List.{nil_from_length}
 use Rattle.std.proofs.lemmas.List.Folds.{concat-append}
@@ -11,13 +13,15 @@ use Rattle.cobs.proofs.format.FrameLemmas.{All-apart, parts-append, parts-frame}
 
 -- JOINED
 
--- the message of joined lists of blocks
+-- the message of two lists of blocks end to end: between the messages of the two lists is the joint of the first list's
+-- last block
 pub message_of-append : (bs cs : List (List ℕ)) → bs ≢ [] → cs ≢ [] → message_of (bs ++ cs) ≡ message_of bs ++ joint (last_of bs) ++ message_of cs
 message_of-append [] cs some some' = absurd (some refl)
 message_of-append (b ∷ []) [] some some' = absurd (some' refl)
 message_of-append (b ∷ []) (c ∷ cs) some some' = refl
 message_of-append (b ∷ d ∷ bs) cs some some' = grind (arith, append_assoc, message_of-append (d ∷ bs) cs)
 
+-- two frames end to end are a frame, whose blocks are the blocks of the first frame and then those of the second
 pub Reads-append : (f m g k : List ℕ) (r : Reads f m) → Reads g k → Reads (f ++ g) (m ++ joint (last_of r.blocks) ++ k)
 Reads-append f m g k r s = record {
   blocks = r.blocks ++ s.blocks;
@@ -31,16 +35,16 @@ Reads-append f m g k r s = record {
 
 -- FRONTS
 
--- the blocks of a front that is a frame are the first blocks of the frame
+-- if a front p of a frame is a frame, its blocks are the first blocks of the whole frame
 first_blocks : (p q : List ℕ) (blocks first : List (List ℕ)) → IsFrameOf (p ++ q) blocks → IsFrameOf p first → blocks ≡ first ++ parts q
 first_blocks p q blocks first frame front = cc (parts-frame (p ++ q) blocks frame, parts-append first q front.each)
 
--- the message of the first blocks is a front of the message of all
+-- the message of the first blocks is a front of the message of all blocks
 message_of-front : (first rest : List (List ℕ)) → first ≢ [] → (more : List ℕ) × (message_of (first ++ rest) ≡ message_of first ++ more)
 message_of-front first [] some = grind (arith, append-nil)
 message_of-front first (b ∷ rest) some = (_, message_of-append first (b ∷ rest) some (λ e. cc) ∙ append_assoc (message_of first) _ (message_of (b ∷ rest)))
 
--- a front is a frame exactly if it ends at a block's end
+-- a front p of a frame is itself a frame exactly if it ends at the end of a block
 pub front_frame : (p q m : List ℕ) (r : Reads (p ++ q) m) → p ≢ [] → IsFrame p ↔ EndsAtBlock p r.blocks
 front_frame p q m r some = (
   λ (k, s). (s.blocks, parts q, first_blocks p q r.blocks s.blocks r.frame s.frame, s.frame.whole),
@@ -54,5 +58,6 @@ front_frame p q m r some = (
   ),
 )
 
+-- if a front p of a frame of m is a frame of k, the message m begins with k
 pub front_message : (p q k m : List ℕ) → Reads (p ++ q) m → Reads p k → IsFront k m
 front_message p q k m r s = grind (arith, first_blocks, message_of-front s.blocks (parts q) s.frame.some)

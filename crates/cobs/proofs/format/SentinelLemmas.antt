@@ -1,5 +1,7 @@
 -- Lemmas on frames for another sentinel, and on frames between sentinels. XORing each byte twice changes nothing
--- (`xor_twice`), so each fact about the sentinel 0 holds for every sentinel.
+-- (`xor_each-twice`), so each fact about the sentinel 0 holds for every sentinel. The main facts: no frame for a
+-- sentinel contains it (`no_sentinel_for`), and bytes without the sentinel contain no zero after the XOR
+-- (`coded_nonzero`).
 use Rattle.std.proofs.Common.{rules, get_or, ◌≡◌, ◌≢◌, ℕ, zero, suc, length-append, ◌+◌, ◌-◌, ◌<◌, ◌≤◌, List, [], ◌∷◌, length, drop, take, replicate, set, refl, sym, ap, ◌∙◌, subst, arith, take_at}
 use borrow.Rule.Slice.PartMut.{put_mid}
 use Rattle.std.specs.Int.Bits.{bit_xor, xor_self}
@@ -10,28 +12,35 @@ use Rattle.cobs.specs.Sentinel.{xor_each, IsEncodedFrameFor, IsDelimitedFrame, I
 use Rattle.cobs.proofs.format.FrameLemmas.{frame_nonzero}
 use Rattle.cobs_bytes.proofs.bytes.XoredLemmas.{xor_twice}
 
+-- a second XOR with s restores the bytes
 pub xor_each-twice : (s : ℕ) (f : List ℕ) → xor_each s (xor_each s f) ≡ f
 xor_each-twice s [] = refl
 xor_each-twice s (b ∷ f) = rw (xor_twice b s, xor_each-twice s f) refl
 
--- parts of some bytes, XORed
+-- a part of some bytes can be taken before or after each byte is XORed with s
 module _ (bytes : List ℕ) (s : ℕ) where
+  -- the first n bytes
   pub front_xored : (n : ℕ) → xor_each s (take n bytes) ≡ take n (xor_each s bytes)
   front_xored n = grind (arith, take-map)
 
+  -- the bytes from index i on
   pub rest_xored : (i : ℕ) → xor_each s (take (length bytes - i) (drop i bytes)) ≡ drop i (xor_each s bytes)
   rest_xored i = grind (arith, take_rest, drop-map)
 
+  -- the n bytes from index i on
   pub slice_xored : (i n : ℕ) → xor_each s (take (i + n - i) (drop i bytes)) ≡ take n (drop i (xor_each s bytes))
   slice_xored i n = grind (arith, take-map, drop-map)
 
+  -- if each of the first n bytes is `bit_xor 1 s`, the first n bytes are ones after the XOR
   pub ones_xored : (n : ℕ) → take n bytes ≡ replicate n (bit_xor 1 s) → take n (xor_each s bytes) ≡ replicate n 1
   ones_xored n e = sym (front_xored n) ∙ ap (xor_each s) e ∙ xored_ones n
     where
+      -- n bytes `bit_xor 1 s` are ones after the XOR
       xored_ones : (n : ℕ) → xor_each s (replicate n (bit_xor 1 s)) ≡ replicate n 1
       xored_ones zero = refl
       xored_ones (suc n) = rw (xor_twice 1 s, xored_ones n) refl
 
+-- the first byte after the XOR
 pub first_xored : (bytes : List ℕ) (s : ℕ) → 0 < length bytes → take 1 (xor_each s bytes) ≡ bit_xor (get_or bytes 0 0) s ∷ []
 first_xored [] s some = grind arith
 first_xored (b ∷ bytes) s some = refl
@@ -50,20 +59,23 @@ pub coded_nonzero : (f : List ℕ) (s : ℕ) → IsFreeOf s f → HasNoZero (xor
 coded_nonzero f s free =
     All-map (λ b. b ≢ 0) (λ b. bit_xor b s) f (All-weaker (λ b. b ≢ s) (λ b. bit_xor b s ≢ 0) (λ b other e. other (sym (xor_twice b s) ∙ ap (λ x. bit_xor x s) e)) f free)
 
+-- no byte of an encoded frame is a zero
 pub encoded_nonzero : {f m : List ℕ} → IsEncodedFrame f m → HasNoZero f
 encoded_nonzero {f} {m} e = frame_nonzero f m e.reads
 
--- no frame for a sentinel contains it
+-- a frame, after each byte is XORed with s, doesn't contain s
 pub no_sentinel : (f : List ℕ) (s : ℕ) → IsFrame f → IsFreeOf s (xor_each s f)
 no_sentinel f s (m, r) = All-map (λ b. b ≢ s) (λ b. bit_xor b s) f
     (All-weaker (λ b. b ≢ 0) (λ b. bit_xor b s ≢ s) (λ b some is. some (sym (xor_twice b s) ∙ ap (λ x. bit_xor x s) is ∙ xor_self s)) f (frame_nonzero f m r))
 
+-- bytes that are a frame after the XOR with s don't contain s
 pub no_sentinel_for : (s : ℕ) (f : List ℕ) → IsFrame (xor_each s f) → IsFreeOf s f
 no_sentinel_for s f frame = subst (IsFreeOf s) (xor_each-twice s f) (no_sentinel _ s frame)
 
+-- an encoded frame for the sentinel s doesn't contain s
 pub encoded_free : (s : ℕ) (f : List ℕ) {m : List ℕ} → IsEncodedFrameFor s f m → IsFreeOf s f
 encoded_free s f {m} e = no_sentinel_for s f (m, e.reads)
 
--- a frame between two sentinels
+-- the bytes between the two sentinels of a delimited frame contain no zero
 pub delimited_nonzero : {bytes m : List ℕ} → IsDelimitedFrame bytes m → HasNoZero (between_ends bytes)
 delimited_nonzero (f, e, is) = grind (arith, take_at, length-append, encoded_nonzero e)

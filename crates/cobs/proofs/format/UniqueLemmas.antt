@@ -16,25 +16,26 @@ use Rattle.cobs.proofs.format.LengthLemmas.{encoded_len-short, encoded_len-zero,
 
 -- WHAT BLOCKS STAND FOR
 
--- two blocks or more stand for some message
+-- two blocks or more stand for a message that isn't empty
 some_message : (block : List ℕ) (blocks : List (List ℕ)) → IsBlock block → blocks ≢ [] → message_of (block ∷ blocks) ≢ []
 some_message [] blocks is more e = absurd is
 some_message (code ∷ bytes) [] is more e = more refl
 some_message (code ∷ bytes) (next ∷ blocks) is more e = grind (arith, length-append, ap length e)
 
--- blocks without a byte or a zero between them are the lone block
+-- blocks that stand for the empty message are only the lone block
 empty_message : (b : List ℕ) (bs : List (List ℕ)) → All IsBlock (b ∷ bs) → message_of (b ∷ bs) ≡ [] → b ∷ bs ≡ lone_block ∷ []
 empty_message [] bs h e = grind (arith, All-head)
 empty_message (c ∷ bytes) [] h e = grind (arith, All-head)
 empty_message (c ∷ bytes) (d ∷ ds) h e = absurd (some_message (c ∷ bytes) (d ∷ ds) (grind (arith, All-head)) (λ z. cc) e)
 
--- how long the frame of a block's bytes and more is
+-- the length of the encoded frame of a block's bytes, its joint and a message m: the block's length, and then the frame
+-- of m. If the block is full, m must not be empty.
 len-block : (block m : List ℕ) → IsBlock block → (is_full block ≡ true → m ≢ []) → encoded_len (bytes_of block ++ joint block ++ m) ≡ length block + encoded_len m
 len-block [] m is some = absurd is
 len-block (code ∷ bytes) m is some = grind (arith, append_assoc, encoded_len-full, encoded_len-zero)
 
--- The length of the encoded frame is the length of the blocks before the last one, plus the length of the frame of the last
--- block's bytes. The exception: the last block is empty and follows a full block.
+-- The length of the encoded frame is the length of the blocks before the last one, plus the length of the frame of the
+-- last block's bytes. The exception: the last block is empty and follows a full block.
 pub len-blocks : (front : List (List ℕ)) (code : ℕ) (bytes : List ℕ) → All IsBlock front → (is_full (last_of front) ≡ true → bytes ≢ [])
     → encoded_len (message_of (front ++ (code ∷ bytes) ∷ [])) ≡ length (concat front) + encoded_len bytes
 len-blocks [] code bytes each some = omega arith
@@ -45,16 +46,18 @@ len-blocks (b ∷ c ∷ front) code bytes each some =
 
 -- THERE IS ONE ENCODED FRAME
 
--- the bytes of the first block are the first 254 of the message, as far as its first zero
+-- the bytes of the first block are the first 254 bytes of the message, or its bytes before its first zero if these are
+-- fewer
 first_bytes : (c : ℕ) (a : List ℕ) (bs : List (List ℕ)) (n : ℕ) → All IsBlock ((c ∷ a) ∷ bs) → n ≡ 254 → a ≡ take n (head (message_of ((c ∷ a) ∷ bs)))
 first_bytes c a [] n h e = let is = All-head IsBlock (c ∷ a) [] h in rw (head_alone a is.2) (grind (arith, take_all))
 first_bytes c a (d ∷ ds) n h e =
     let is = All-head IsBlock (c ∷ a) (d ∷ ds) h in
+    -- the bytes before the message's first zero begin with the bytes of the first block
     let cut : head (message_of ((c ∷ a) ∷ d ∷ ds)) ≡ a ++ head (joint (c ∷ a) ++ message_of (d ∷ ds))
     = ap head (grind (arith, append_assoc)) ∙ head-append a _ is.2 in
     grind (arith, head-zero, append-nil, take_all, take_at)
 
--- so the first blocks of one message are one
+-- if two lists of blocks stand for the same message, their first blocks are equal (`first_bytes`)
 same_first : (b c : List ℕ) (bs cs : List (List ℕ)) → All IsBlock (b ∷ bs) → All IsBlock (c ∷ cs) → message_of (b ∷ bs) ≡ message_of (c ∷ cs) → b ≡ c
 same_first [] c bs cs h i e = grind (arith, All-head)
 same_first (x ∷ b) [] bs cs h i e = grind (arith, All-head)
@@ -62,9 +65,11 @@ same_first (x ∷ b) (y ∷ c) bs cs h i e =
     let bytes : b ≡ c = first_bytes x b bs 254 h refl ∙ ap (λ m. take 254 (head m)) e ∙ sym (first_bytes y c cs 254 i refl) in
     grind (arith, All-head)
 
--- a block that stands for the same message as it and other blocks is full, and the lone block follows it
+-- if a block alone stands for the same message as this block and other blocks, it is full, and the only other block is
+-- the lone block
 then_lone : (b d : List ℕ) (ds : List (List ℕ)) → All IsBlock (b ∷ d ∷ ds) → bytes_of b ≡ message_of (b ∷ d ∷ ds) → IsFull b × (d ∷ ds ≡ lone_block ∷ [])
 then_lone b d ds h e =
+    -- the joint of b and the message of the other blocks have no byte
     let rest : [] ≡ joint b ++ message_of (d ∷ ds) = append_cancel_left (bytes_of b) [] _ (grind (arith, append-nil, append_assoc)) in
     elim (cases_Bool (is_full b)) [
       | inl full ↦ (full, empty_message d ds (All-tail IsBlock b (d ∷ ds) h) (grind arith))
@@ -75,7 +80,8 @@ then_lone b d ds h e =
 abbrev pub AddsLone : List (List ℕ) → List (List ℕ) → Type 0
 AddsLone bs cs = (front : List (List ℕ)) × (block : List ℕ) × IsFull block × (cs ≡ front ++ block ∷ []) × (bs ≡ front ++ block ∷ lone_block ∷ [])
 
--- blocks that stand for the message of canonical blocks are these, or these and the lone block
+-- if blocks bs stand for the same message as the blocks cs, and cs are canonical (`IsShorter`), bs are cs, or cs and
+-- the lone block
 pub same_blocks : (bs cs : List (List ℕ)) → bs ≢ [] → cs ≢ [] → All IsBlock bs → All IsBlock cs → IsShorter cs → message_of bs ≡ message_of cs → (bs ≡ cs) ⊎ AddsLone bs cs
 same_blocks [] cs some some' each each' shorter same = absurd (some refl)
 same_blocks (b ∷ bs) [] some some' each each' shorter same = absurd (some' refl)
@@ -95,6 +101,7 @@ same_blocks (b ∷ d ∷ ds) (c ∷ k ∷ ks) some some' each each' shorter same
       | inr (front, block, full, is, longer) ↦ inr (b ∷ front, block, full, cc, cc)
     ]
 
+-- the blocks of an encoded frame meet `IsShorter`
 pub IsEncodedFrame-shorter : (f m : List ℕ) (e : IsEncodedFrame f m) → IsShorter e.reads.blocks
 IsEncodedFrame-shorter f m e = grind (arith, one_frame)
 
@@ -108,12 +115,13 @@ one_encoded f g m e d =
       | inr (front, block, full, is, longer) ↦ absurd (IsEncodedFrame-shorter f m e front block full longer)
     ]
 
+-- an encoded frame has `encoded_len` bytes
 pub length-encoded : (f m : List ℕ) → IsEncodedFrame f m → length f ≡ encoded_len m
 length-encoded f m e =
     let r = e.reads in
     let end = shorter_end r.blocks r.frame.some r.frame.each (IsEncodedFrame-shorter f m e) in
     grind (arith, len-blocks, concat-push, encoded_len-short, length-append)
 
--- equal frames have equal messages
+-- equal encoded frames have equal messages
 pub same_message : (f g m k : List ℕ) → IsEncodedFrame f m → IsEncodedFrame g k → f ≡ g → m ≡ k
 same_message f g m k e d same = one_message f m k e.reads (grind arith)

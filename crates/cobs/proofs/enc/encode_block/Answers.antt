@@ -1,5 +1,6 @@
--- A message of fewer than 255 bytes has one code (`encoded_len-short`), and its frame, with each byte XORed with the sentinel, is
--- a frame for that sentinel (`frame_for`). The bytes after the frame are those that `encode` left (`drop-append-drop`).
+-- A message of fewer than 255 bytes has one code (`encoded_len-short`), and its frame, with each byte XORed with the
+-- sentinel, is a frame for that sentinel (`frame_for`). The bytes after the frame are those that `encode` left
+-- (`drop-append-drop`).
 use Rattle.std.proofs.Common.{◌≡◌, ◌≤◌, ◌+◌, ◌++◌, ℕ, List, length, length-take-le, take, take_at, drop, ◌∙◌, arith}
 use Rattle.std.proofs.lemmas.List.{length-map}
 use Rattle.std.proofs.lemmas.Slice.{drop-append-drop}
@@ -15,9 +16,11 @@ frame_for : (s n : ℕ) (coded changed m : List ℕ) → n ≤ length coded → 
     → IsEncodedFrameFor s (take n (changed ++ drop n coded)) m
 frame_for s n coded changed m within is frame = grind (arith, length-map, length-take-le, take_at, xor_each-twice)
 
+-- the frame is one byte longer than the message
 len-is : (c : After-xor_bytes) → c.encode-len.result ≡ length c.args.source.now + 1
 len-is c = grind (arith, encoded_len-short)
 
+-- the changed bytes are a frame for the sentinel
 pub returns-clause-frame : goal.returns-clause-frame
 returns-clause-frame c =
     let coded : List ℕ = c.encode-len.new.dest in
@@ -25,6 +28,7 @@ returns-clause-frame c =
     frame_for c.args.sentinel _ coded c.xor_bytes.new.bytes m (omega arith) c.xor_bytes.ensures.changed
     (rw (len-is (goal.at.returns-clause-frame c).After-xor_bytes) at c.encode-len.ensures.frame)
 
+-- the XOR changed only the bytes of the frame, so the bytes after them are those that `encode` left
 pub returns-clause-rest : goal.returns-clause-rest
 returns-clause-rest c =
     let coded : List ℕ = c.encode-len.new.dest in

@@ -1,10 +1,11 @@
--- The whole source was taken from an encoder that had taken nothing (`start-after`), and closing its last block ends the
--- frame.
+-- The whole source was taken from an encoder that had taken nothing (`start-after`), and closing its last block ends
+-- the frame.
 use Rattle.std.proofs.Common.{◌≡◌, [], ◌∙◌, arith}
 use Rattle.std.proofs.lemmas.Grind.{common_steps}
 use Rattle.cobs.proofs.encoding.TakingLemmas.{all-rest, start-after, start-len}
 use Rattle.cobs.proofs.enc.encode_long.Goals as goal
 
+-- the frame of the empty message, which `close` makes from a new encoder
 pub returns-then-is_empty-clause-frame : goal.returns-then-is_empty-clause-frame
 returns-then-is_empty-clause-frame c =
     let none : c.args.source.now ≡ [] = grind (arith, common_steps) in

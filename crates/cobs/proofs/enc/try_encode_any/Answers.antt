@@ -1,5 +1,5 @@
--- The whole source was taken from an encoder that had taken nothing (`start-after`), and closing its last block ends the
--- frame.
+-- The whole source was taken from an encoder that had taken nothing (`start-after`), and closing its last block ends
+-- the frame.
 use Rattle.std.proofs.Common.{◌<◌, ◌∙◌, length, arith}
 use Rattle.cobs.proofs.encoding.TakingLemmas.{start-after, start-len}
 use Rattle.cobs.proofs.format.SentinelLemmas.{encoded_nonzero}
@@ -7,6 +7,7 @@ use Rattle.cobs.proofs.enc.try_encode_any.Goals as goal
 
 pub returns-clause-frame : goal.returns-clause-frame
 returns-clause-frame c =
+    -- a frame has at least one byte, so the slice isn't empty
     let some : 0 < length c.args.dest.now = grind arith in
     c.close.ensures.frame c.args.source.now (start-after c.args.dest.now _ c.new-encoder.ensures.start some (c.try_append.ensures.taken cc))
 

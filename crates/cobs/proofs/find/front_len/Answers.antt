@@ -16,68 +16,84 @@ record Window (bytes : List ℕ) (zeros : ℕ) : Type 0 where
   long : 32 ≤ length bytes
   is : zeros ≡ zero_mask (take 32 bytes)
 
--- its lowest bit is the first zero
+-- the mask isn't 0, and its lowest bit is the window's first zero
 module _ {bytes : List ℕ} {zeros : ℕ} (w : Window bytes zeros) (some : zeros ≢ 0) where
+  -- the first 32 bytes
   abbrev window : List ℕ
   window = take 32 bytes
 
+  -- the index of the mask's lowest bit
   abbrev first : ℕ
   first = count_trailing_zeros 64 zeros
 
+  -- the window has 32 bytes
   long : length window ≡ 32
   long = length-take-le 32 bytes w.long
 
+  -- the mask of the window has the same lowest bit
   place : first ≡ lowest (zero_mask window)
   place = ap lowest w.is
 
+  -- the first zero is within the window
   within : first < 32
   within = grind (arith, long, lowest-within)
 
+  -- no byte before it is a zero
   before : HasNoZero (take first bytes)
   before = rw (← take-take first 32 bytes (omega (arith, within))) (grind (arith, clear_front, long))
 
+  -- the byte at this index is a zero
   stop : get_or bytes first 0 ≡ 0
   stop = sym (get_or-take 32 bytes first 0 within) ∙ rw place (grind (arith, lowest-zero, long, within))
 
--- the first window has no zero
+-- the first window has no zero, and the second window was read
 module _ (c : After-zeros_at-later) where
   abbrev source : List ℕ
   source = c.args.source.now
 
+  -- the index at which the second window begins
   abbrev at : ℕ
   at = c.min-at.result
 
+  -- the second window is within the source
   inside : c.min-at.result + 32 ≤ length source
   inside = grind arith
 
+  -- its mask describes the bytes from `at` on
   later : Window (drop at source) c.zeros_at-later.result
   later = grind (arith, length-drop)
 
+  -- if k bytes from `at` on aren't zeros, no byte before their end is a zero
   both : (k : ℕ) → HasNoZero (take k (drop at source)) → HasNoZero (take (at + k) source)
   both k after =
       let none = zero_mask-none (take 32 source) (grind arith) in
       let front = rw (take-take at 32 source (omega arith)) at (All-take (λ b. b ≢ 0) at (take 32 source) none) in
       rw (take-add at k source) (All-append (λ b. b ≢ 0) _ _ front after)
 
-  -- the second window has no zero either
+  -- the second window has no zero
   module _ (none : c.zeros_at-later.result ≡ 0) where
+    -- no byte up to the end of the second window is a zero
     windows : HasNoZero (take (at + 32) source)
     windows = grind (arith, both, zero_mask-none)
 
+    -- if the source has at least 64 bytes, the first 64 aren't zeros
     wide : 64 ≤ length source → HasNoZero (take 64 source)
     wide long =
         let far : c.min-at.result + 32 ≡ 64 = omega arith in
         rw far at windows
 
+    -- if the source is longer, and its 65th byte isn't a zero, the first 65 bytes aren't zeros
     wide_more : 64 < length source → get_or source 64 0 ≢ 0 → HasNoZero (take 65 source)
     wide_more more other = All-more (λ b. b ≢ 0) source 64 0 more (wide (omega arith)) other
 
+-- the first window has a zero
 pub returns-then-zeros-ne0 : goal.returns-then-zeros-ne0
 returns-then-zeros-ne0 c =
     let w : Window c.args.source.now c.zeros_at-zeros.result = record { long = omega arith; is = c.zeros_at-zeros.ensures } in
     let some = c.if-zeros-ne0.true in
     grind (arith, within, before, stop)
 
+-- the first window has no zero, and the second window has one
 pub returns-then-later-ne0 : goal.returns-then-later-ne0
 returns-then-later-ne0 c =
     let after = (goal.at.returns-then-later-ne0 c).After-zeros_at-later in
@@ -91,9 +107,11 @@ returns-then-later-ne0 c =
       stop = λ _. sym (grind (arith, get_or-drop)) ∙ stop w some;
     }
 
+-- the zero is at index 64, and no byte before it is a zero
 pub returns-then-source-eq0-clause-before : goal.returns-then-source-eq0-clause-before
 returns-then-source-eq0-clause-before c _ = wide (goal.at.returns-then-source-eq0-clause-before c).After-zeros_at-later c.if-later-ne0.false (omega arith)
 
+-- the zero is at index 65, and no byte before it is a zero
 pub returns-then-source-eq0-2-clause-before : goal.returns-then-source-eq0-2-clause-before
 returns-then-source-eq0-2-clause-before c _ =
     let more = wide_more (goal.at.returns-then-source-eq0-2-clause-before c).After-zeros_at-later c.if-later-ne0.false in
@@ -102,6 +120,7 @@ returns-then-source-eq0-2-clause-before c _ =
       | goal.else-source-gt-WIDE_WINDOW-via-else-source-gt-WIDE_WINDOW w ↦ grind arith
     ]
 
+-- no zero was found: if the source is so short that `before` applies to it, it has no zero
 pub returns-clause-before : goal.returns-clause-before
 returns-clause-before c short =
     let after = (goal.at.returns-clause-before c).After-zeros_at-later in

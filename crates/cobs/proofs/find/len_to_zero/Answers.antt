@@ -8,18 +8,20 @@ use Rattle.cobs.specs.Grammar.{HasNoZero}
 use Rattle.cobs.proofs.find.len_to_zero.Invariants.{Searched}
 use Rattle.cobs.proofs.find.len_to_zero.Goals as goal
 
--- one more byte that isn't a zero
+-- if the first n bytes aren't zeros, and the next byte isn't a zero, the first n + 1 bytes aren't zeros
 next : (xs : List ℕ) (n : ℕ) → n < length xs → get_or xs n 0 ≢ 0 → HasNoZero (take n xs) → HasNoZero (take (n + 1) xs)
 next xs n here other front = grind (arith, common_steps)
 
--- the rest without its first bytes, which have no zero
+-- the first k bytes of the rest, which aren't zeros, are passed
 shorter : (bytes rest after : List ℕ) (k : ℕ) → Searched bytes rest → k ≤ length rest → HasNoZero (take k rest) → after ≡ take (length rest - k) (drop k rest) → Searched bytes after
 shorter bytes rest after k s within nonzero is =
+    -- the number of bytes before the rest
     let n : ℕ = length bytes - length rest in
     let after-is : after ≡ drop k rest = grind (arith, take_all, length-drop) in
     let sum : n + k ≡ length bytes - length after = omega (arith, ap length after-is, length-drop k rest) in
     grind (arith, common_steps, take-add)
 
+-- the next four bytes aren't zeros
 pub by_four-preserved : goal.by_four-preserved
 by_four-preserved c =
     let rest : List ℕ = c.by_four.rest.now in
@@ -30,6 +32,7 @@ by_four-preserved c =
     let four = next rest 3 (omega arith) c.if-rest-eq0-4.false three in
     shorter c.args.bytes.now rest _ 4 c.by_four.invariant c.by_four-test.true four refl
 
+-- the next byte isn't a zero
 pub by_byte-preserved : goal.by_byte-preserved
 by_byte-preserved c =
     let rest : List ℕ = c.by_byte.rest.now in

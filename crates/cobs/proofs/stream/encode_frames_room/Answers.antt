@@ -1,4 +1,5 @@
--- A sum that doesn't fit is less than the room for all messages (`room-some`).
+-- The sum of the rooms of the messages so far is at most the room for all messages (`room-some`). So if the sum doesn't
+-- fit a `usize`, the room for all messages doesn't fit either.
 use Rattle.std.proofs.Common.{arith}
 use Rattle.std.proofs.lemmas.Grind.{common_steps}
 use Rattle.cobs.proofs.format.MessagesLemmas.{room-some}

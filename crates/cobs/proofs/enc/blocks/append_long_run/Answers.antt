@@ -1,4 +1,5 @@
--- Each turn takes a part of the run (`slice-joined`), which may fill its block; the zero after the run closes the last one.
+-- Each turn takes a part of the run (`slice-joined`), which may fill its block; the zero after the run closes the last
+-- one.
 use Rattle.std.proofs.Common.{◌≡◌, ◌==◌, ◌+◌, ◌-◌, ℕ, List, drop, get_or, refl, arith, length-drop}
 use Rattle.std.specs.Prelude.{not}
 use borrow.Rule.Slice.PartMut.{put_mid}
@@ -13,17 +14,21 @@ use Rattle.cobs.proofs.enc.blocks.append_long_run.Goals.{After-copy_from_slice}
 use Rattle.cobs.proofs.enc.blocks.append_long_run.Goals as goal
 use Rattle.cobs_bytes.proofs.bytes.ListLemmas.{part-nonzero}
 
+-- the part that is copied fits the slice, because the frame needs at least as many bytes as are left (`next-least`)
 pub slice_bounds-copy_from_slice-end : goal.slice_bounds-copy_from_slice-end
 slice_bounds-copy_from_slice-end c = grind (arith, length-drop, next-least)
 
 -- a part of the run joins the open block
 module _ (c : After-copy_from_slice) where
+  -- the progress before this turn
   abbrev reached : Reached
   reached = place_at c.by_block.index (c.by_block.next - c.by_block.index) (not (c.by_block.full == 0))
 
+  -- the bytes of the source that are left
   abbrev left : List ℕ
   left = drop c.by_block.read c.args.source.now
 
+  -- the part, which was copied to the slice, joins the open block
   joined : Reaches (start_with c.by_block.dest reached left) (put_mid c.by_block.next (c.by_block.next + c.min-len.result - c.by_block.next) c.by_block.dest c.copy_from_slice.new.self)
       c.min-len.result c.by_block.index (c.by_block.next + c.min-len.result) IsNotFull
   joined =
@@ -34,6 +39,7 @@ module _ (c : After-copy_from_slice) where
       let nonzero = part-nonzero c.by_block.read c.min-len.result c.args.run c.args.source.now c.requires.run.nonzero (omega arith) in
       slice-joined (rw at at (reaches-start {source = left} {old = c.by_block.dest} {r = reached} (omega arith) place.some place.not_full)) nonzero (omega arith) (omega arith) (omega arith) (omega arith) (omega arith) (omega arith) c.copy_from_slice.ensures.after
 
+-- the part doesn't fill the block, which stays open
 pub by_block-preserved : goal.by_block-preserved
 by_block-preserved c =
     let s = joined (goal.at.by_block-preserved c).After-copy_from_slice in
@@ -45,7 +51,7 @@ by_block-preserved c =
       taken = front-next c.by_block.read refl c.by_block.invariant.taken c.min-len.result (front-open (omega arith) s (omega arith) (omega arith) refl);
     }
 
--- the part may fill the block
+-- the part fills the block, whose code 255 was written
 pub by_block-preserved-then-next-index : goal.by_block-preserved-then-next-index
 by_block-preserved-then-next-index c =
     let s = joined (goal.at.by_block-preserved-then-next-index c).After-copy_from_slice in
@@ -56,6 +62,7 @@ by_block-preserved-then-next-index c =
       taken = front-next c.by_block.read refl c.by_block.invariant.taken c.min-len.result (front-filled (omega arith) c.if-next-index.true s (omega arith) refl);
     }
 
+-- after the loop, a zero follows the run, and closes the open block
 pub returns-clause-taken : goal.returns-clause-taken
 returns-clause-taken c =
     let left : List ℕ = drop c.by_block.read c.args.source.now in

@@ -1,4 +1,5 @@
--- A run and windows in turn are two steps joined (`front-next`).
+-- Each iteration takes windows and then a run: these are two more steps, which `front-next` joins to the steps before
+-- them. In the proof, s is the step to the end of the windows.
 use Rattle.std.proofs.Common.{arith}
 use Rattle.std.proofs.lemmas.List.{take_rest}
 use Rattle.cobs.proofs.encoding.TakingLemmas.{front-next}

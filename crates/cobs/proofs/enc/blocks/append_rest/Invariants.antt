@@ -1,4 +1,5 @@
--- The first `read` bytes of the source are taken (`TakesFront`).
+-- The first `read` bytes of the source are taken (`TakesFront`). The loop ends, because each iteration takes at least
+-- one byte.
 use Rattle.std.proofs.Common.{◌≤◌, ◌-◌, length}
 use Rattle.cobs.specs.Fields.Progress.{reached_by}
 use Rattle.cobs.specs.Internal.Taking.{TakesFront}

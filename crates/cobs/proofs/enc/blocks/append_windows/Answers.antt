@@ -1,5 +1,5 @@
--- Each turn takes one window: without a zero (`masked-end`), with zeros that are marked (`masked-step`), with zeros only
--- (`row-taken`), or up to a full block (`filled`).
+-- Each turn takes one window: without a zero (`masked-end`), with zeros that are marked (`masked-step`), with zeros
+-- only (`row-taken`), or up to a full block (`filled`).
 use Rattle.std.proofs.Common.{ℕ, ◌≡◌, refl, ◌≢◌, ◌<◌, ◌≤◌, ◌+◌, ◌-◌, min, arith, length, take, drop, length-drop}
 use lib.Count.{count_trailing_zeros}
 use Rattle.std.proofs.lemmas.Grind.{common_steps}
@@ -19,12 +19,15 @@ use Rattle.cobs.proofs.enc.blocks.append_windows.Goals as goal
 
 -- the window as it was copied
 module _ (c : After-copy_at-window) where
+  -- the slice and the progress at the start of the call, and the source
   abbrev start : Start
   start = start_with c.args.dest.now (reached_by c.args.encoder) c.args.source.now
 
+  -- the mask that says which bytes of the window are zeros
   abbrev zeros : ℕ
   zeros = c.copy_at-window.result
 
+  -- the window was copied after the open block's bytes
   copied : CopiedWindow start c.copy_at-window.new.dest c.by_window.read 32 c.by_window.index c.by_window.next zeros
   copied = record {
     some = omega arith;
@@ -34,32 +37,39 @@ module _ (c : After-copy_at-window) where
     bits = c.copy_at-window.ensures.zeros;
   }
 
-  -- the window with a code in the place of its first zero
+  -- the index of the window's first zero in the slice
   abbrev first : ℕ
   first = c.by_window.next + lowest zeros
 
+  -- if the first zero comes before the open block is full, its place gets a code; the mask without this zero describes
+  -- the window
   coded : zeros ≢ 0 → first - c.by_window.index < 255
       → IsMasked start c.by_window.read 32 c.by_window.next (without_lowest zeros) first (set c.copy_at-window.new.dest c.by_window.index (first - c.by_window.index))
   coded some near = masked-step (masked-start copied (omega arith)) some
 
+-- a source that is no longer than a window is left as it is
 pub returns-then-source-le-WINDOW-clause-taken : goal.returns-then-source-le-WINDOW-clause-taken
 returns-then-source-le-WINDOW-clause-taken c = grind (arith, common_steps)
 
+-- at the start, no byte is taken
 pub by_window-init : goal.by_window-init
 by_window-init c =
     let short = c.requires.place.not_full in
     record { more = omega arith; open' = omega arith; reaches = Reaches-weaker (reaches-start c.requires.some c.requires.place.some short) (grind arith) }
 
+-- a window without a zero is taken, and leaves its block open
 pub by_window-preserved-then-next-index : goal.by_window-preserved-then-next-index
 by_window-preserved-then-next-index c =
     let w = copied (goal.at.by_window-preserved-then-next-index c).After-copy_at-window in
     let taken = masked-end (masked-start w (omega arith)) c.if-window-eq0.true in
     grind arith
 
+-- `mark_zeros` gets the mask without the first zero
 pub mark_zeros-index-requires : goal.mark_zeros-index-requires
 mark_zeros-index-requires c = (_, _, _, coded (goal.at.mark_zeros-index-requires c).After-copy_at-window c.if-window-eq0.false (omega arith))
 
--- a row of zeros is taken
+-- `write_codes_of_zeros` has written the codes of a row of zeros, so these zeros are taken; there is at least one, and
+-- a byte is left
 row : (c : After-write_codes_of_zeros-zeros) → let s = start_with c.args.dest.now (reached_by c.args.encoder) c.args.source.now in let n = c.write_codes_of_zeros-zeros.result in
     CopiedWindow s c.copy_at-window.new.dest c.by_window.read 32 c.by_window.index c.by_window.next c.copy_at-window.result
     → WindowTaken s c.write_codes_of_zeros-zeros.new.dest c.by_window.read n (c.by_window.next + n - 1) c.by_window.next × (0 < n) × (c.by_window.read + n < length c.args.source.now)
@@ -68,6 +78,8 @@ row c w =
     let fits = w.copied.room in
     let long = length-drop c.by_window.read c.args.source.now in
     let n = length-chunk c.by_window.read 32 c.args.source.now w.copied.inside in
+    -- the window has only zeros (`zeros`), so the first code is written at the place of the open block's code (`first`,
+    -- `code`)
     let zeros = (window_all (take 32 (drop c.by_window.read c.args.source.now)) (omega arith) (grind arith)).1 in
     let first : lowest c.copy_at-window.result ≡ 0 = grind arith in
     let code : c.by_window.next + lowest c.copy_at-window.result - c.by_window.index ≡ c.by_window.next - c.by_window.index = omega arith in
@@ -75,27 +87,32 @@ row c w =
     let some = written.some (omega arith) zeros in
     (row-taken (w.copied.reaches) w.short fits c.write_codes_of_zeros-zeros.result some (omega arith) written.zeros written.written, some, omega arith)
 
+-- a window that has only zeros begins a row of zeros, which is taken
 pub by_window-preserved-then-window-eq-ALL_ZEROS : goal.by_window-preserved-then-window-eq-ALL_ZEROS
 by_window-preserved-then-window-eq-ALL_ZEROS c =
     let at = goal.at.by_window-preserved-then-window-eq-ALL_ZEROS c in
     let t = row at.After-write_codes_of_zeros-zeros (copied at.After-copy_at-window) in
     grind arith
 
+-- the row isn't empty, so fewer bytes are left
 pub by_window-smaller-then-window-eq-ALL_ZEROS : goal.by_window-smaller-then-window-eq-ALL_ZEROS
 by_window-smaller-then-window-eq-ALL_ZEROS c =
     let at = goal.at.by_window-smaller-then-window-eq-ALL_ZEROS c in
     omega (arith, row at.After-write_codes_of_zeros-zeros (copied at.After-copy_at-window))
 
+-- after `mark_zeros`, no zero is left in the mask, and the window is taken
 pub by_window-preserved : goal.by_window-preserved
 by_window-preserved c =
     let taken = masked-end (c.mark_zeros-index.ensures _ _ _ (coded (goal.at.by_window-preserved c).After-copy_at-window c.if-window-eq0.false (omega arith))) refl in
     grind arith
 
--- no zero is near enough to keep the block from being full
+-- none of the tests in this iteration was true, so the window's first zero, or its end, comes after the open block is
+-- full
 none-near : (c : Joined-window-eq0) → (c.copy_at-window.result ≢ 0 → lowest c.copy_at-window.result < 32)
     → c.by_window.index + 255 - c.by_window.next ≤ min (lowest c.copy_at-window.result) 32
 none-near c first = grind (arith, lowest-none)
 
+-- the bytes before the window's first zero fill the open block, so the call ends after them
 pub returns-in-by_window : goal.returns-in-by_window
 returns-in-by_window c =
     let at = goal.at.returns-in-by_window c in
@@ -107,6 +124,7 @@ returns-in-by_window c =
       taken = front-taken (omega arith) (filled w none (omega arith)) (omega arith) (grind arith) (omega arith) c.encoder_at.ensures;
     }
 
+-- the loop has ended, and the open block isn't full
 pub returns-clause-taken : goal.returns-clause-taken
 returns-clause-taken c =
     let i = c.by_window.invariant in

@@ -3,6 +3,7 @@ use Rattle.std.proofs.Common.{refl, arith}
 use Rattle.cobs.proofs.encoding.MarkLemmas.{masked-first, masked-ordered}
 use Rattle.cobs.proofs.enc.blocks.mark_first.Goals as goal
 
+-- the place of the open block's code is no later than that of the next zero, so the code isn't negative
 pub overflow_sub-dest : goal.overflow_sub-dest
 overflow_sub-dest c = masked-ordered c.requires.3
 

@@ -1,4 +1,5 @@
--- The first `len` bytes of the source are zeros, and as many codes 1 are written.
+-- The first `len` bytes of the source are zeros (`zeros`), and as many codes 1 are written to the slice from index `at`
+-- on (`written`). A byte of the source is left (`within`). The loop ends, because each iteration makes `len` greater.
 use Rattle.std.proofs.Common.{◌≡◌, ◌<◌, ◌-◌, ◌+◌, ◌++◌, length, take, drop, replicate}
 use Rattle.cobs.proofs.enc.blocks.write_codes_of_zeros.Given as goal
 

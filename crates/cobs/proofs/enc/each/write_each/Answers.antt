@@ -1,5 +1,6 @@
--- Each byte closes the open block or joins it. The open block has room for all bytes of the part, because a full one is
--- closed before the part (`opened`). The last block is closed at the end, whether it is full or not (`whole-frame`).
+-- Each byte closes the open block or joins it, by `Reaches-zero` and `joined`. The open block has room for all bytes of
+-- the part, because a full one is closed before the part (`opened`). The last block is closed at the end, whether it is
+-- full or not (`whole-frame`).
 use Rattle.std.proofs.Common.{length, ◌≡◌, ◌<◌, ◌+◌, ◌-◌, ◌∙◌, false, ℕ, List, drop, get_or, take, refl, arith, ◌≤◌, sym, inl, inr, append-nil}
 use Rattle.std.proofs.lemmas.List.{get_or-drop, get_or-take, drop-set-lt}
 use Rattle.cobs.specs.Internal.Reaches.{Reaches, HadTaken, Start, start_with, whole_end}
@@ -15,14 +16,15 @@ use Rattle.cobs.specs.Length.{encoded_len}
 use Rattle.cobs.specs.OpenBlock.{place_at}
 use Rattle.cobs.proofs.encoding.AfterLemmas.{closed-full, closed-open, from_after}
 
--- a new encoder, and the message
+-- the start of the call: a slice, a new encoder, and the message
 abbrev start : List ℕ → List ℕ → Start
 start old source = start_with old (place_at 0 1 false) source
 
--- the end of the message's frame
+-- the message's frame will end at `encoded_len`
 whole-fits : (old source : List ℕ) → 0 < length old → whole_end (start old source) ≡ encoded_len source
 whole-fits old source some = grind arith
 
+-- at the start, no byte of the message is taken
 whole-start : {old source : List ℕ} → 0 < length old → Reaches (start old source) old 0 0 1 IsNotFull
 unfolding HadTaken
 whole-start {old} {source} some = record {
@@ -34,14 +36,17 @@ whole-start {old} {source} some = record {
   taken = λ m h. (false, refl, rw append-nil (from_after h));
 }
 
--- the last block of the message is closed
+-- the whole message is taken, and the code of its last block is written
 module _ {old source slice : List ℕ} {pos index next : ℕ} (some : 0 < length old) (last : pos ≡ length source) (fits : encoded_len source ≤ length slice) (r : Reaches (start old source) slice pos index next IsNotFull) where
+  -- the frame ends at `next`
   whole-len : next ≡ encoded_len source
   whole-len = sym (ends r last) ∙ whole-fits old source some
 
+  -- the bytes after the frame are as they were
   whole-rest : drop next (set slice index (next - index)) ≡ drop next old
   whole-rest = drop-set-lt next slice index _ (omega arith) ∙ (rw (ends r last) at r.rest)
 
+  -- the slice begins with the encoded frame, if the last block isn't full (`inl`), and if it is full (`inr`)
   whole-frame : IsEncodedFrame (take next (set slice index (next - index))) source
   whole-frame =
       let end = whole-fits old source some in
@@ -55,6 +60,7 @@ module _ {old source slice : List ℕ} {pos index next : ℕ} (some : 0 < length
             rw code (closed-full after refl))
       ]
 
+-- before the first part, no byte of the message is taken
 pub by_part-init : goal.by_part-init
 by_part-init c = whole-start (omega arith)
 
@@ -70,30 +76,36 @@ opened c =
       | goal.else-next-index-eq-FULL_CODE w ↦ grind arith
     ]
 
+-- at the start of a part, no byte of the part is taken
 pub by_byte-init : goal.by_byte-init
 by_byte-init c = grind (arith, opened)
 
+-- one more byte of the part is taken
 pub by_byte-preserved : goal.by_byte-preserved
 by_byte-preserved c =
     let source : List ℕ = c.args.source.now in
     let left : List ℕ = drop c.by_part.read source in
     let count : ℕ = length source - c.by_part.read in
     let byte : ℕ = get_or (take count left) c.by_byte.i 0 in
+    -- the byte that is read from the part is the next byte of the source
     let is : get_or source (c.by_part.read + c.by_byte.i) 0 ≡ byte = grind (arith, get_or-take, get_or-drop) in
     let fits = whole-fits c.args.dest.now source (omega arith) in
     let i = c.by_byte.invariant in
     let open' = i.open' in
     elim c.if-byte-eq0.branch [
+      -- a zero closes the open block
       | goal.then-byte-eq0 w ↦ rw (w.dest-is, w.index-is) (record {
         open' = omega arith;
         reaches = Reaches-at refl (omega arith) refl refl (λ full p lt. p) (Reaches-zero i.reaches (omega arith) (omega arith) (grind arith) (omega arith) refl);
       })
+      -- any other byte joins the open block
       | goal.else-byte-eq0 w ↦ rw (w.dest-is, w.index-is) (record {
         open' = omega arith;
         reaches = Reaches-at refl (omega arith) refl refl (λ full p lt. p) (joined byte (omega arith) i.reaches is w.if-byte-eq0.false (omega arith) (omega arith));
       })
     ]
 
+-- after the last part, the whole message is taken
 pub returns : goal.returns
 returns c =
     let r = c.by_part.invariant in

@@ -1,4 +1,5 @@
--- The frame so far ends before the bytes that are still to be read (`encoded_len-le`), so each of these is as it was (`there`).
+-- The frame so far ends before the bytes that are still to be read (`encoded_len-le`), so each of these is as it was
+-- (`there`).
 use Rattle.std.proofs.Common.{◌≡◌, ◌<◌, ◌≤◌, ◌+◌, ◌-◌, ◌++◌, ℕ, List, [], ◌∷◌, drop, take, get_or, sym, ◌∙◌, arith, length, length-drop, length-take}
 use Rattle.std.proofs.lemmas.List.{get_or-drop, length_push, take_more}
 use Rattle.cobs.specs.Fields.Progress.{reached_by}
@@ -28,9 +29,11 @@ fits-one : {slice m : List ℕ} {r : Reached} (byte n : ℕ) → CobsEncoderAfte
 fits-one {m = m} byte n h more fits =
     omega (arith, encoded_len-le (m ++ byte ∷ []), length_push m byte, after-end h (byte ∷ []))
 
+-- at the start, the encoder has taken no byte of the message
 pub by_byte-init : goal.by_byte-init
 by_byte-init c = grind arith
 
+-- the encoder has room for the next byte
 pub append_byte-requires : goal.append_byte-requires
 append_byte-requires c =
     let i = c.by_byte.invariant in
@@ -40,26 +43,34 @@ append_byte-requires c =
     (record { place = after-place i.after; fits = fits-one byte c.args.len i.after (omega arith) (omega arith) }) in
     grind arith
 
+-- the encoder takes the next byte
 pub by_byte-preserved : goal.by_byte-preserved
 by_byte-preserved c =
     let old : List ℕ = c.args.buffer.now in
+    -- the index of the next byte in the buffer, at which it was before the call too
     let before : ℕ = c.max_encoding_overhead-before.result in
     let at : ℕ = before + c.by_byte.taken in
     let r : Reached = reached_by c.by_byte.encoder in
     let i = c.by_byte.invariant in
+    -- facts for the tactics: the encoder takes the byte (`e`), the frame so far ends at `end_of r` (`end`), and it is
+    -- no longer than `max_encoded_len` says (`most`)
     let taken_long = length-take c.by_byte.taken (drop before old) in
     let e = c.append_byte.ensures.taken [] (fits-one _ c.args.len i.after (omega arith) (omega arith)) in
     let long = length-drop before old in
     let end = end-is i.after in
     let most = encoded_len-le (take c.by_byte.taken (drop before old)) in
+    -- the next byte in the buffer is the byte of the message, because the frame hasn't reached it
     let byte : get_or c.by_byte.buffer at 0 ≡ get_or (drop before old) c.by_byte.taken 0 =
     there _ at c.by_byte.buffer old (omega arith) i.rest ∙ sym (grind (arith, get_or-drop)) in
+    -- the message so far, with this byte
     let more : take (c.by_byte.taken + 1) (drop before old) ≡ take c.by_byte.taken (drop before old) ++ get_or c.by_byte.buffer at 0 ∷ [] = grind (arith, take_more) in
     grind (arith, drop-later, next-least r (get_or c.by_byte.buffer at 0 ∷ []) (after-place i.after).some (omega arith))
 
+-- the encoder's state is possible, as `close_block` requires
 pub close_block-requires : goal.close_block-requires
 close_block-requires c = after-place c.by_byte.invariant.after
 
+-- after the loop, the encoder has taken the whole message m
 pub returns : goal.returns
 returns c =
     let m : List ℕ = message_in c.args.len c.args.buffer.now in

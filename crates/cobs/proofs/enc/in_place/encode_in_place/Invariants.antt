@@ -1,4 +1,5 @@
--- The message's first `taken` bytes are encoded in front of the place where the others are, which are as they were.
+-- The encoder has taken the message's first `taken` bytes (`after`), and the bytes of the buffer after the frame so far
+-- are as they were (`rest`). So the bytes of the message that are still to be read are unchanged.
 use Rattle.std.proofs.Common.{◌≡◌, drop, take}
 use Rattle.cobs.specs.OpenBlock.{CobsEncoderAfter, end_of}
 use Rattle.cobs.specs.Fields.Progress.{reached_by}

@@ -1,4 +1,6 @@
--- A run is counted once its end is known: `open_len-run` for its bytes, and `len-end` or `len-zero` for its end.
+-- The frame is counted run by run: `open_len-run` for the bytes of a run, and `len-end` or `len-zero` for its end. If a
+-- zero is among the next bytes, as many as could fill the open block, the bytes up to the last such zero are skipped
+-- (`skipped`).
 use Rattle.std.proofs.Common.{◌≡◌, ◌+◌, ◌/◌, ◌<◌, length, drop, arith, length-drop}
 use Rattle.std.proofs.lemmas.List.{get_or-take, get_or-drop, take_rest}
 use Rattle.cobs.specs.Length.{open_len}
@@ -12,9 +14,11 @@ joined : (c : After-position_or_len-more) → open_len (c.by_run.run + 1) (drop 
     ≡ open_len (c.by_run.run + 1 + c.position_or_len-more.result) (drop (c.by_run.read + c.position_or_len-more.result) c.args.source.now)
 joined c = grind (arith, take_rest, open_len-run)
 
+-- the source ends with the run, and the frame doesn't fit
 pub returns-then-spare-held-clause-fits : goal.returns-then-spare-held-clause-fits
 returns-then-spare-held-clause-fits c = grind (arith, len-end, joined (goal.at.returns-then-spare-held-clause-fits c).After-position_or_len-more)
 
+-- the source ends with the run, and the frame fits
 pub returns-then-read-source-clause-fits : goal.returns-then-read-source-clause-fits
 returns-then-read-source-clause-fits c = grind (arith, len-end, joined (goal.at.returns-then-read-source-clause-fits c).After-position_or_len-more)
 
@@ -25,18 +29,22 @@ stopped : (c : After-position_or_len-more) → c.by_run.read + c.position_or_len
     + open_len 1 (drop (c.by_run.read + c.position_or_len-more.result + 1) c.args.source.now)
 stopped c more = grind (arith, take_rest, get_or-drop, joined, len-zero)
 
+-- the number of full blocks is small enough for the sum, because the length of the frame is bounded (`open_len-most`)
 pub overflow_add-counted-in_default : goal.overflow_add-counted-in_default
 overflow_add-counted-in_default c =
     grind (arith, open_len-most)
 
+-- a zero was found before the open block could be full, and the bytes up to it are skipped
 pub by_run-preserved-in-Some : goal.by_run-preserved-in-Some
 by_run-preserved-in-Some c =
     grind (arith, get_or-drop, get_or-take, skipped)
 
+-- a zero ends the run, and the full blocks of the run are counted
 pub by_run-preserved : goal.by_run-preserved
 by_run-preserved c =
     let end = stopped (goal.at.by_run-preserved c).After-position_or_len-more (grind arith) in
     grind (arith, take_rest)
 
+-- the bytes that are left can't fill the open block, and the frame fits
 pub returns-then-held-counted-clause-fits : goal.returns-then-held-counted-clause-fits
 returns-then-held-counted-clause-fits c = grind (arith, length-drop, open_len-most)

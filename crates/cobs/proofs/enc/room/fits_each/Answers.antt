@@ -1,16 +1,20 @@
 -- The invariant compares the bytes that the frame still needs (`open_len`) with those that are left. `len-full`,
--- `len-byte` and `len-zero` say how a full block and a byte change the first number, and `len-end` is its value at the end.
+-- `len-byte` and `len-zero` say how a full block and a byte change the first number, and `len-end` is its value at the
+-- end.
 use Rattle.std.proofs.Common.{◌≡◌, ◌<◌, ◌+◌, arith, drop, length-drop}
 use Rattle.cobs.specs.Length.{open_len}
 use Rattle.cobs.proofs.encoding.OpenLenLemmas.{len-full, len-end, len-byte, len-zero}
 use Rattle.cobs.proofs.enc.room.fits_each.Goals as goal
 
+-- a full block needs a spare byte, and no spare byte is left, so the frame doesn't fit
 pub returns-then-left-eq0 : goal.returns-then-left-eq0
 returns-then-left-eq0 c = grind (arith, len-full, length-drop)
 
+-- all bytes are counted, and spare bytes are left, so the frame fits
 pub returns : goal.returns
 returns c = grind (arith, len-end)
 
+-- one more byte is counted
 pub by_byte-preserved : goal.by_byte-preserved
 by_byte-preserved c =
     let next = c.by_byte-test.true in
@@ -23,4 +27,5 @@ by_byte-preserved c =
           rw (w.left-is, w.taken-is) (omega arith, omega arith, omega arith)
       | goal.else-taken-eq-FULL_BLOCK_BYTES w ↦ grind arith
     ] in
+    -- then the byte is counted: it joins the open block, or is a zero and closes it
     grind (arith, len-byte, len-zero)

@@ -1,5 +1,5 @@
--- XOR with the sentinel twice changes nothing (`xor_each-twice`), so the changed bytes are a frame for that sentinel, in
--- which it doesn't occur (`encoded_free`).
+-- XOR with the sentinel twice changes nothing (`xor_each-twice`), so the changed bytes are a frame for that sentinel,
+-- in which it doesn't occur (`encoded_free`).
 use Rattle.std.proofs.Common.{arith, length-take-le, take_at}
 use Rattle.cobs.proofs.format.SentinelLemmas.{encoded_free, xor_each-twice}
 use Rattle.cobs.proofs.enc.sentinel.try_encode_with_sentinel.Goals as goal
@@ -10,5 +10,6 @@ returns-clause-frame c = grind (arith, length-take-le, take_at, xor_each-twice)
 pub returns-clause-no_sentinel : goal.returns-clause-no_sentinel
 returns-clause-no_sentinel c = encoded_free c.args.sentinel _ (returns-clause-frame c)
 
+-- `encode_few` has written a frame for this sentinel
 pub returns-in-Some-clause-no_sentinel : goal.returns-in-Some-clause-no_sentinel
 returns-in-Some-clause-no_sentinel c = grind (arith, encoded_free)

@@ -13,16 +13,19 @@ use Rattle.cobs.proofs.streaming.FeedLemmas.{DecoderAfter-idle}
 use Rattle.cobs.proofs.streaming.ReadingLemmas.{HasTaken-any, EndsFirstIn-taken, HasDecoded-taken}
 use Rattle.cobs.proofs.framed.FrameReader.feed_through_end.Goals as goal
 
--- the reported length is within the buffer, because the decoder had taken some bytes, whichever these are
+-- the reported number is at most the length of the buffer: the premise holds for some bytes that the decoder had taken,
+-- whichever these are
 next_within : {X : Type 0} (next : Next) (buffer : List ℕ) → ∥ X ∥₁ → (X → (outcome : Outcome) × IsOutcome next buffer outcome) → IsNextWithin (length buffer) next
 next_within (nexts.Message n) buffer some h = ∥∥₁_elim some le_prop (λ x. (h x).1.1)
 next_within (nexts.Broken count) buffer some h = ∥∥₁_elim some le_prop (λ x. (h x).1.1)
 next_within nexts.TooLong buffer some h = tt
 next_within (nexts.End unfinished) buffer some h = tt
 
+-- no piece ended: the decoder has taken all bytes, and no outcome was reported
 pub returns-in-None-clause-none : goal.returns-in-None-clause-none
 returns-in-None-clause-none g c = grind (arith, HasTaken-any)
 
+-- a piece ended: the facts of `ReportsFirst`, if the decoder had been fed p before
 pub returns-in-Some-clause-first : goal.returns-in-Some-clause-first
 returns-in-Some-clause-first g c = λ p h.
     let t = c.in-Some.ensures.takes in
@@ -33,13 +36,16 @@ returns-in-Some-clause-first g c = λ p h.
       decoded = HasDecoded-taken _ t p h;
     }
 
+-- a piece ended: the reported number is at most the length of the buffer
 pub returns-in-Some-clause-bound : goal.returns-in-Some-clause-bound
 returns-in-Some-clause-bound g c =
     next_within c.next_at.result _ c.args.self.now.has_taken (grind arith)
 
+-- a piece ended: the decoder is idle
 pub returns-in-Some-clause-idle : goal.returns-in-Some-clause-idle
 returns-in-Some-clause-idle g c = DecoderAfter-idle _ _ c.in-Some.ensures.takes.idle
 
+-- the type's invariant, after no piece ended: the decoder has been fed some front of a piece
 pub invariant_of-self-clause-has_taken : goal.invariant_of-self-clause-has_taken
 invariant_of-self-clause-has_taken g c = ∥∥₁_map c.args.self.now.has_taken (λ w. (
   _,
@@ -49,5 +55,6 @@ invariant_of-self-clause-has_taken g c = ∥∥₁_map c.args.self.now.has_taken
   },
 ))
 
+-- the type's invariant, after a piece ended: the decoder has been fed no byte of a piece
 pub invariant_of-self-in-Some-clause-has_taken : goal.invariant_of-self-in-Some-clause-has_taken
 invariant_of-self-in-Some-clause-has_taken g c = ∣ ([], record { after = DecoderAfter-idle _ _ c.in-Some.ensures.takes.idle; flag = refl }) ∣₁

@@ -1,4 +1,4 @@
--- A new reader's decoder has taken no byte of the source.
+-- The invariant of the type, `has_taken`: a new reader's decoder has been fed no byte of the source.
 use Rattle.std.proofs.Common.{refl, []}
 use Rattle.cobs.proofs.framed.FrameReader.new.Goals as goal
 

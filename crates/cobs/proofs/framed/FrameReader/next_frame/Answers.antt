@@ -5,21 +5,27 @@ use Rattle.std.proofs.Common.{◌≡◌, [], subst, take, Some, arith}
 use Rattle.cobs.proofs.streaming.ReadingLemmas.{Going-start, Going-push, ReadsNext-kept, ReadsNext-failed, ReadsNext-end, ReadsNext-piece, ReadsNext-too_many, front_rest, empty_range, left_of_range}
 use Rattle.cobs.proofs.framed.FrameReader.next_frame.Goals as goal
 
+-- a piece ends in the kept bytes, so nothing is read
 pub returns-in-Some-clause-next : goal.returns-in-Some-clause-next
 returns-in-Some-clause-next g c = grind (arith, ReadsNext-kept, left_of_range)
 
+-- before the first read
 pub by_read-init : goal.by_read-init
 by_read-init g c = grind (arith, Going-start)
 
+-- the read failed
 pub returns-in-None-clause-next : goal.returns-in-None-clause-next
 returns-in-None-clause-next g c = ReadsNext-failed _ (grind arith) (omega arith) c.by_read.invariant.going c.in-None.ensures.step
 
+-- the read returned no bytes, so the source has ended
 pub returns-in-Some-eq0-clause-next : goal.returns-in-Some-eq0-clause-next
 returns-in-Some-eq0-clause-next g c =
+    -- the step of the source for a read that returned no bytes
     let step : g.S.FrameSource.step c.by_read.source (Some []) c.read_some.new.self
     = subst (λ k. g.S.FrameSource.step c.by_read.source (Some (take k c.read_some.new.chunk)) c.read_some.new.self) c.in-Some-eq0.field-0-test c.in-Some-eq0.ensures.step in
     ReadsNext-end _ (grind arith) (omega arith) c.by_read.invariant.going step
 
+-- no piece ends in the bytes of the read, and all of them were fed to the decoder
 pub by_read-preserved : goal.by_read-preserved
 by_read-preserved g c =
     let r = c.feed_through_end-in-Some-read_some.new.self in
@@ -34,6 +40,7 @@ by_read-preserved g c =
       same_loan = grind arith;
     }
 
+-- a piece ends in the bytes of the read
 pub returns-in-Some-feed_through_end-clause-next : goal.returns-in-Some-feed_through_end-clause-next
 returns-in-Some-feed_through_end-clause-next g c =
     let n = c.in-Some-read_some.n in
@@ -42,5 +49,6 @@ returns-in-Some-feed_through_end-clause-next g c =
     ReadsNext-piece _ _ (omega arith) c.by_read.invariant.going c.in-Some-read_some.ensures.step e.len
     (grind (arith, front_rest)) e.idle
 
+-- 65,536 reads were made, and each of them returned bytes
 pub returns-clause-next : goal.returns-clause-next
 returns-clause-next g c = ReadsNext-too_many (omega arith) c.by_read.invariant.going

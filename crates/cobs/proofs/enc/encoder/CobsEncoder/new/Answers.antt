@@ -2,6 +2,7 @@
 use Rattle.std.proofs.Common.{arith}
 use Rattle.cobs.proofs.enc.encoder.CobsEncoder.new.Goals as goal
 
+-- the type's invariant: the encoder's progress is possible in the slice
 pub invariant_of-result : goal.invariant_of-result
 invariant_of-result c = grind arith
 

@@ -1,4 +1,4 @@
--- The last code completes the open frame, by `completed`.
+-- The code that `finalize` returns, written to its place in the output, completes the open frame: by `completed`.
 use Rattle.cobs.proofs.encoding.OpenedLemmas.{completed}
 use Rattle.cobs.proofs.enc.state.EncoderState.finalize.Goals as goal
 

@@ -1,5 +1,5 @@
--- Each byte is one step more of the encoder (`front-next`): a zero closes the open block, another byte joins it, or fills and
--- closes it. There is room for it because the frame of the whole source fits.
+-- Each byte is one step more of the encoder (`front-next`): a zero closes the open block, another byte joins it, or
+-- fills and closes it. There is room for it because the frame of the whole source fits.
 use Rattle.std.proofs.Common.{◌≡◌, ◌<◌, ◌≤◌, ◌+◌, ◌-◌, List, ℕ, true, false, drop, get_or, length, length-drop, refl, sym, ap, ◌∙◌, arith}
 use Rattle.std.proofs.lemmas.List.{get_or-drop}
 use Rattle.cobs.specs.Internal.Taking.{TakesFront}
@@ -8,11 +8,13 @@ use Rattle.cobs.proofs.encoding.ByteLemmas.{byte-fills, byte-joins, byte-zero}
 use Rattle.cobs.proofs.encoding.TakingLemmas.{front-next}
 use Rattle.cobs.proofs.enc.unbuffered.UnbufferedEncoder.append_each.Goals as goal
 
--- the byte after the first i is taken too; the slice after it has two names
+-- if the first i bytes are taken, and then the next byte, the first i + 1 bytes are taken; `after` and `named` are the
+-- same slice
 next : {old slice after named source : List ℕ} {r r' r'' : Reached} (i : ℕ) → TakesFront old r source i slice r' → after ≡ named
     → TakesFront slice r' (drop i source) 1 after r'' → TakesFront old r source (i + 1) named r''
 next i before is byte = rw (sym is) (front-next i refl before 1 byte)
 
+-- one more byte is taken
 pub by_byte-preserved : goal.by_byte-preserved
 by_byte-preserved c =
     let i = c.by_byte.invariant in
@@ -20,6 +22,7 @@ by_byte-preserved c =
     let t = i.taken.2 in
     let source : List ℕ = c.args.bytes.now in
     let left : List ℕ = drop c.by_byte.i source in
+    -- the first byte of those that are left (`left`) is byte i of the source
     let is : get_or left 0 0 ≡ get_or source c.by_byte.i 0 = get_or-drop c.by_byte.i source 0 0 ∙ ap (λ n. get_or source n 0) (omega arith) in
     let some : 0 < length left = omega (arith, length-drop c.by_byte.i source) in
     let fits : end_after (place_at c.by_byte.index (c.by_byte.next - c.by_byte.index) i.taken.0) left ≤ length c.by_byte.dest = omega arith in
@@ -27,7 +30,9 @@ by_byte-preserved c =
     elim c.if-byte-ne0.branch [
       | goal.then-byte-ne0 a ↦ elim c.if-byte-eq0.branch [
         | goal.then-byte-eq0 w ↦ elim w.then-byte-eq0.branch [
+          -- impossible, because the byte isn't a zero
           | goal.then-byte-eq0-via-then-byte-eq0 v ↦ absurd (a.if-byte-ne0.true v.if-byte-eq0.true)
+          -- the byte fills the open block
           | goal.then-byte-eq0-via-else-byte-eq0+then-left-eq0 v ↦ record {
             ordered = omega arith;
             short = omega arith;
@@ -35,6 +40,7 @@ by_byte-preserved c =
             taken = (true, λ lt. grind arith, next c.by_byte.i t (grind arith) (byte-fills {source = left} t.place fits some at (λ e. a.if-byte-ne0.true (sym is ∙ e)) (omega arith) (grind arith)));
           }
         ]
+        -- the byte joins the open block
         | goal.else-byte-eq0+else-left-eq0 w ↦ record {
           ordered = omega arith;
           short = omega arith;
@@ -43,12 +49,14 @@ by_byte-preserved c =
         }
       ]
       | goal.else-byte-ne0 a ↦ elim c.if-byte-eq0.branch [
+        -- a zero closes the open block
         | goal.then-byte-eq0 w ↦ record {
           ordered = omega arith;
           short = omega arith;
           left = omega arith;
           taken = (false, λ lt. grind arith, next c.by_byte.i t (grind arith) (byte-zero {source = left} t.place fits some at (is ∙ a.if-byte-ne0.false) refl (grind arith)));
         }
+        -- impossible, because the byte is a zero
         | goal.else-byte-eq0+else-left-eq0 w ↦ absurd (w.if-byte-eq0.false a.if-byte-ne0.false)
       ]
     ]

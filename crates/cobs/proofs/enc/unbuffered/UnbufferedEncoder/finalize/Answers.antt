@@ -1,10 +1,11 @@
--- The slice holds the message's open frame, so closing its last block makes the frame (`closed-open`), unless that block is
--- full (`closed-full`), and its length is the end (`end-is`). A frame has no zero (`encoded_nonzero`).
+-- The slice holds the message's open frame, so closing its last block makes the frame (`closed-open`), unless that
+-- block is full (`closed-full`), and its length is the end (`end-is`). A frame has no zero (`encoded_nonzero`).
 use Rattle.std.proofs.Common.{arith}
 use Rattle.cobs.proofs.encoding.AfterLemmas.{after-place, closed-full, closed-open, end-is}
 use Rattle.cobs.proofs.format.SentinelLemmas.{encoded_nonzero}
 use Rattle.cobs.proofs.enc.unbuffered.UnbufferedEncoder.finalize.Goals as goal
 
+-- the state is impossible in this slice, so the encoder can't have taken a message
 pub returns-then-not-is_within-clause-fits : goal.returns-then-not-is_within-clause-fits
 returns-then-not-is_within-clause-fits c = λ m h. cc (c.is_within.ensures.1 (after-place h))
 
@@ -16,7 +17,9 @@ returns-clause-len c = λ m h.
 pub returns-clause-frame : goal.returns-clause-frame
 returns-clause-frame c = λ m h.
     elim c.if-self-eq0.branch [
+      -- the code of the open block was written
       | goal.then-self-eq0 w ↦ rw (w.len-is, w.dest-is) (closed-open h (grind arith))
+      -- the frame ends in a full block
       | goal.else-self-eq0 w ↦ rw (w.len-is, w.dest-is) (closed-full h (grind arith))
     ]
 

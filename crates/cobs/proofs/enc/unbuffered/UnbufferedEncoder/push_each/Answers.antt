@@ -1,25 +1,29 @@
 -- Only the clause `fits` is proved here, as for `push`: the length of the frame of all bytes so far is `end_after`
--- (`after-end`), and `has_room` compares that index with the slice (`end-with`). An encoder that has taken a message has a
--- possible state (`after-place`), so it takes a push of no bytes.
+-- (`after-end`), and `has_room` compares that index with the slice (`end-with`). An encoder that has taken a message
+-- has a possible state (`after-place`), so it takes a push of no bytes.
 use Rattle.std.proofs.Common.{append-nil, [], ◌≡◌, ◌≢◌, length, refl, arith}
 use Rattle.std.proofs.lemmas.Grind.{common_steps}
 use Rattle.cobs.proofs.encoding.ByteLemmas.{end-with, place-short}
 use Rattle.cobs.proofs.encoding.AfterLemmas.{after-end, after-fits, after-place}
 use Rattle.cobs.proofs.enc.unbuffered.UnbufferedEncoder.push_each.Goals as goal
 
+-- the state is impossible in this slice, so the encoder can't have taken a message
 pub returns-then-self-gt253-clause-fits : goal.returns-then-self-gt253-clause-fits
 returns-then-self-gt253-clause-fits c = λ m h.
     let place = after-place h in
     grind arith
 
+-- no bytes are pushed, and the frame fits as before
 pub returns-then-self-ne0-clause-fits : goal.returns-then-self-ne0-clause-fits
 returns-then-self-ne0-clause-fits c = λ m h.
     let none : c.args.bytes.now ≡ [] = grind (arith, common_steps) in
     rw (none, append-nil) (λ t. after-fits h, λ le. refl)
 
+-- no bytes are pushed, but the push is refused: the state is impossible in this slice
 pub returns-then-is_empty-clause-fits : goal.returns-then-is_empty-clause-fits
 returns-then-is_empty-clause-fits c = λ m h. grind (arith, after-place h)
 
+-- `has_room` is false, so the frame doesn't fit
 pub returns-then-not-has_room-clause-fits : goal.returns-then-not-has_room-clause-fits
 returns-then-not-has_room-clause-fits c = λ m h.
     let e = after-end h c.args.bytes.now in
@@ -27,5 +31,6 @@ returns-then-not-has_room-clause-fits c = λ m h.
     let end = end-with c.args.self.now c.args.bytes.now (place-short c.args.self.now _ (after-place h)) (omega arith) in
     (λ t. cc, λ le. cc (c.has_room.ensures.fits.1 (omega arith)))
 
+-- the bytes are taken, so the frame fits
 pub returns-clause-fits : goal.returns-clause-fits
 returns-clause-fits c = grind (arith, after-end)
