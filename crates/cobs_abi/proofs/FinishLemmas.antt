@@ -41,6 +41,7 @@ module _ (free : (f : List ℕ) (s : ℕ) → IsFrame f → All (λ byte. byte �
       let front : take result.length (changed ++ drop result.length part) ≡ xor_each s frame = take_at changed (drop result.length part) result.length len ∙ is in
       let behind : drop result.length (changed ++ drop result.length part) ≡ drop result.length part = drop-append-drop result.length part changed result.length (omega arith) len in
       record {
+        -- for a message m that the encoder has taken: the facts of `w` are those before the XOR
         writes = λ m h.
             let w = f.writes m h in
             record {
@@ -53,11 +54,13 @@ module _ (free : (f : List ℕ) (s : ℕ) → IsFrame f → All (λ byte. byte �
               too_small = w.too_small;
               rest = behind ∙ w.rest;
             };
+        -- the XOR changes neither the result nor the encoder, so these fields are those of the call before the XOR
         place = f.place;
         fresh = f.fresh;
         too_small = f.too_small;
         rejected = f.rejected;
         empty = f.empty;
+        -- the bytes after the frame are as they were, and the buffer keeps its length
         rest = behind ∙ f.rest;
         bound = f.bound;
         len = length-append changed (drop result.length part) ∙ omega (arith, len, within, f.len, length-drop result.length part);
@@ -101,6 +104,7 @@ module _ {encoder encoder' : UnbufferedEncoder} {buffer buffer' : List ℕ} wher
     -- the status isn't OK, so the premises of these two fields are false
     place = λ ok. absurd (omega (arith, ok));
     fresh = λ ok. absurd (omega (arith, ok));
+    -- the result is the one that these fields state, and nothing has changed (`same`, `kept`)
     too_small = λ _. refl;
     rejected = λ _. kept;
     empty = λ _. refl;
@@ -145,6 +149,7 @@ module _ (counted : (f m : List ℕ) → IsEncodedFrame f m → length f ≡ enc
           let size : encoded_len m + 0 + 1 ≡ encoded_len m + 1 = omega arith in
           subst (λ (n : ℕ). Writes n 0 (λ bytes. IsEnded bytes m) buffer (record { status = OK; consumed = result.consumed; length = result.length + 1 }) (set (part ++ drop last buffer) result.length s))
           size (Writes-terminated last s room len w ok (λ (x : List ℕ) e. ended x m e));
+      -- the length is one more than that of the call before, and the encoder is fresh
       place = λ _. omega (arith, f.place ok);
       fresh = λ _. f.fresh ok;
       -- the status is OK, and the buffer has at least one byte, so the premises of these three fields are false
@@ -188,6 +193,7 @@ module _ (counted : (f m : List ℕ) → IsEncodedFrame f m → length f ≡ enc
           -- the status isn't OK, so the premises of these two fields are false
           place = λ ok. absurd (other ok);
           fresh = λ ok. absurd (other ok);
+          -- the result and the encoder are those of the call that failed, and no byte has changed (`rest`)
           too_small = f.too_small;
           rejected = f.rejected;
           empty = λ _. f.too_small other;

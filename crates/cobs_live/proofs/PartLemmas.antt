@@ -44,6 +44,7 @@ one_piece : (law : StreamLaw) (q : List ℕ) (n : ℕ) (outcome : Outcome) → H
 unfolding all_ended stream_outcomes ended_pieces but_last
 one_piece law [] n outcome h reported = absurd cc
 one_piece law (b ∷ q) n outcome h reported =
+    -- q and a zero are one piece, so its outcome is the only outcome
     let one = law.piece (b ∷ q) (λ none. cc) h in
     (ap (map (ended_in n)) one, let same = reported ∙ ap (map (λ p. outcome_of p n)) one in cc)
 

@@ -42,6 +42,7 @@ module _ {S A : Type 0} {step : S → Read A → S → Type 0} {source mid sourc
   live-more {P} a b right = record {
     reads = a.reads ++ b.live.reads;
     runs = Runs-append step source mid source' a.reads b.live.reads a.runs b.live.runs;
+    -- at each further read, P holds, because the further reads before it returned nothing (`right`)
     live = live-append P [] a.reads b.live.reads a.live
         (subst (λ (g : List (List A)). IsLiveAfter P g b.live.reads) (append-nil (came a.reads))
         (live-behind (HeldWhileNothing written) P (came a.reads) [] b.live.reads (λ gone held h. subst (P (came a.reads ++ gone)) (sym h.1) (right gone h.0)) b.live.live));
@@ -64,6 +65,7 @@ once-more {A = A} {step = step} {source = source} {mid = mid} {source' = source'
     runs = Runs-append step source mid source' a.live.reads (read ∷ []) a.live.runs (source', s, refl);
     live = live-append (HeldWhileNothing written) [] a.live.reads (read ∷ []) a.live.live (back, (a.given, same), tt);
   };
+  -- the earlier reads had no result, so the result of this read is the result of all
   given = ap joined (map-append (λ (r : Read A). r.came) a.live.reads (read ∷ [])) ∙ joined-append (came a.live.reads) (read.came ∷ []) ∙ ap (λ (x : List A). x ++ (read.came ++ [])) a.given ∙ append-nil read.came;
 }
 

@@ -65,11 +65,14 @@ HasShownSoFar-start law settings from before watch idle none first len same skip
         gone = [];
         bytes = [];
         times = λ number. watch.clock.last;
+        -- all pieces have the time of the clock, which is 0
         timeline = record { start = first; rises = λ number. omega arith };
         alone = whatever from _ refl;
         read = Consumes-nil from;
+        -- no text is written, because no piece has ended
         written = rw (all_ended-none (begun settings.skip_first []) settings.length no_outcomes, shown_from-none settings.view (λ number. watch.clock.last) 0) (Appends-nil before);
       };
+      -- the decoder has been fed nothing, and nothing is counted
       taken = rw (begun-none settings.skip_first, law.same [] no_zero) idle;
       tallied = rw no_outcomes none;
       timed = refl;
@@ -102,6 +105,7 @@ HasShownSoFar-live step source from s =
         skips = s.skips;
       };
       live = live-none step source _;
+      -- no read was made, so there are no results
       given = sym (ap (letters_of s.ended.gone) none ∙ ap (λ (g : List (List ℕ)). letters_of g []) first);
     }
 
@@ -236,9 +240,12 @@ module _ (law : StreamLaw) {settings : Settings} {from to before after : Option 
     gone = s.ended.gone;
     bytes = s.ended.bytes ++ more;
     times = more-times now;
+    -- `now` isn't before the times so far (`later`), so the times are still a timeline
     timeline = IsTimeline-extended s.ended.times known now s.ended.timeline (omega (arith, later, ap (λ (m : Moment). m.millis) s.timed));
     alone = s.ended.alone;
+    -- the reads so far consumed the bytes so far, and this read consumed `more`
     read = Consumes-trans from to to' s.ended.bytes more s.ended.read r;
+    -- the text so far was written, and then the new text
     written = subst (Appends before after') (sym (more-text now more))
         (Appends-trans before after after' _ _ s.ended.written (subst (λ (w : Settings). Appends after after' (new_text w.view now more)) s.same written));
   }
@@ -255,7 +262,9 @@ module _ (law : StreamLaw) {settings : Settings} {from to before after : Option 
         times = s.ended.times;
         timeline = s.ended.timeline;
         alone = s.ended.alone;
+        -- the bytes so far are all bytes that were read
         read = subst (Consumes from to') (append-nil s.ended.bytes) (Consumes-trans from to to' s.ended.bytes [] s.ended.read r);
+        -- the text so far was written, and then the text of `ShowsEnd`
         written = Appends-trans before after after' _ _ s.ended.written (rw (s.same, is) at end.written);
       }
 
@@ -305,19 +314,25 @@ module _ (law : StreamLaw) {settings : Settings} {from to before after : Option 
       let is : shows.begun ≡ is_nonempty (unended opened) = begun-after (unended opened) (length watch.message.items) (phase_of watch.decoder) shows.begun s.taken.phased.phase_is shows.idle in
       record {
         ended = record {
+          -- the open line is now the last line that hung up, and no byte of the next line was read
           gone = s.ended.gone ++ s.ended.bytes ∷ [];
           bytes = [];
           times = s.ended.times;
           timeline = s.ended.timeline;
+          -- the reader's bytes aren't known (`unknown`), so nothing is claimed about them
           alone = unknown-alone from to s.ended.bytes _ unknown s.ended.read;
           read = unknown-read from to to' s.ended.bytes unknown s.ended.read;
+          -- the text so far was written, and then the text of the hang-up
           written = subst (Appends before after') (sym gone-text) (Appends-trans before after after' _ _ s.ended.written (rw (s.same, is) at shows.written));
         };
+        -- the decoder is idle, as it is before the next line
         taken = rw (not_begun (skips_behind settings.skip_first (s.ended.gone ++ s.ended.bytes ∷ [])), law.same [] (All-nil (λ (b : ℕ). b ≢ 0))) anew.taken;
+        -- the counts, the buffer, the times and the settings are as they were before the hang-up
         tallied = rw (gone-outcomes, count_bytes-gone s.ended.gone s.ended.bytes, anew.tally) s.tallied;
         len = ap (λ message. length message.items) anew.message ∙ s.len;
         timed = ap (λ (c : Times). c.last) anew.clock ∙ s.timed ∙ ap (λ (os : List Outcome). s.ended.times (length os)) (sym gone-outcomes);
         same = ap (λ settings. settings.now) anew.settings ∙ s.same;
+        -- bytes of the next line are skipped up to its first sentinel
         skips = anew.awaited ∙ sym (skips_on-none (skips_behind settings.skip_first (s.ended.gone ++ s.ended.bytes ∷ [])) ∙ skips_behind-gone settings.skip_first s.ended.gone s.ended.bytes);
       }
 

@@ -124,10 +124,14 @@ module _ {settings : Settings} {all_sent : Bool} {from to to' before after after
   abbrev SentSoFar-with : (flag : Bool) → (IsTrue flag ↔ All (λ l. IsSendable settings (text_of l)) (s.lines ++ line ∷ [])) → SentSoFar settings flag from to' before after'
   SentSoFar-with flag all = record {
     lines = s.lines ++ line ∷ [];
+    -- the lines with this line are the first lines of the reader, and each ends at its first newline
     first = more-AreFirst from to to' s.lines (concat s.lines) line s.read s.first some through left;
     each_stops = All-push (λ (l : List ℕ). StopsAt l 10) s.lines line s.each_stops stops;
     sent = s.sent ++ bytes ∷ [];
+    -- the bytes of this line were written after those of the earlier lines
     each = zip_push _ s.lines s.sent line bytes s.each t;
+    -- the reader consumed the lines so far and this line; the output got the bytes so far and those of this line
+    -- (`written`)
     read = rw (concat-append s.lines (line ∷ []), append-nil) (Consumes-trans from to to' _ line s.read r);
     written = rw (concat-append s.sent (bytes ∷ []), append-nil) (Appends-trans before after after' _ bytes s.written w);
     flag = all;
@@ -162,11 +166,13 @@ unsent {from = from} {to} {before} {after} to' after' rest s stops r kept = (
   rest,
   record {
     lines = s.lines;
+    -- the lines so far are the first lines of the reader
     first = first-lines from to s.lines (concat s.lines) s.read s.first;
     each_stops = s.each_stops;
     rest_stops = stops;
     sent = s.sent;
     each = s.each;
+    -- the reader consumed the lines so far and `rest`, and the output has only the bytes of the lines
     read = Consumes-trans from to to' (concat s.lines) rest s.read r;
     written = Appends-kept before after after' _ s.written kept;
   },
@@ -192,6 +198,7 @@ sent_all {from = from} {to} to' given s r none end =
     record {
       so_far = record {
         lines = s.lines;
+        -- the lines so far are the first lines of the reader
         first = first-lines from to s.lines (concat s.lines) s.read s.first;
         each_stops = s.each_stops;
         rest_stops = All-nil (λ (b : ℕ). b ≢ 10);
@@ -200,6 +207,7 @@ sent_all {from = from} {to} to' given s r none end =
         read = Consumes-trans from to to' (concat s.lines) [] s.read nothing;
         written = s.written;
       };
+      -- at the end of the input, these are all lines, and the reader is still at its end
       all = all-lines from to s.lines (concat s.lines) s.read s.first end;
       end = still-at_end from to to' (concat s.lines) s.read end nothing;
       flag = s.flag;

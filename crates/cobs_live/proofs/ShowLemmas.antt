@@ -106,8 +106,10 @@ module _ (law : StreamLaw) {view : View} {times : ℕ → Moment} {n : ℕ} {p b
       ∙ ap (λ (l : List ℕ). shown_from view times (length gone) (all_ended (p ++ bytes) n) ++ l)
       (shown_from-one view times (length gone + length (all_ended (p ++ bytes) n)) piece ∙ ap (λ (k : ℕ). shown view times k piece) number) in
       record {
+        -- the text so far was written, and then the text of this piece
         written = rw text (Appends-trans before after after' _ _ s.written written);
         taken = rw left-on taken;
+        -- the tally and the clock are those after one outcome more
         tallied = rw (outcomes-on, sym one, sym (append_assoc gone (stream_outcomes (p ++ bytes) n) (outcome ∷ []))) counted;
         timed = rw (outcomes-on, sym one, sym (append_assoc gone (stream_outcomes (p ++ bytes) n) (outcome ∷ []))) timed;
         len = len ∙ s.len;

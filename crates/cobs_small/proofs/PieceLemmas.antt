@@ -31,7 +31,7 @@ front : (t : List ℕ) → Front t
 front [] = record { n = 0; within = omega arith; none = All-nil (λ b. b ≢ 0); stop = λ more. absurd (omega (arith, more)) }
 front (zero ∷ t) = record { n = 0; within = omega arith; none = All-nil (λ b. b ≢ 0); stop = λ more. refl }
 front (suc b ∷ t) =
-    -- the bytes of t before its first zero, and the nonzero byte before t
+    -- before t there is a nonzero byte, so n is one more than for t
     let f = front t in
     record {
       n = suc f.n;

@@ -10,12 +10,13 @@ use Rattle.cobs.specs.Grammar.{HasNoZero, IsBlock}
 abbrev pub block_at : List ℕ → ℕ → List ℕ
 block_at list read = get_or list read 0 ∷ take (get_or list read 0 - 1) (drop (read + 1) list)
 
--- `read` is an index within a list that has no zero; `code` is the byte at this index, and `more` are all bytes after
--- it
+-- `read` is an index within a list that has no zero
 module _ (list : List ℕ) (read : ℕ) (nonzero : HasNoZero list) (within : read < length list) where
+  -- the byte at this index, which is a code
   abbrev code : ℕ
   code = get_or list read 0
 
+  -- all bytes after the code
   abbrev more : List ℕ
   more = drop (read + 1) list
 

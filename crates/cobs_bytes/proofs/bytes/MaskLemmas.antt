@@ -89,12 +89,12 @@ mask_behind d bytes = zero_mask (replicate d 1 ++ bytes)
 mask_behind-more : (d : ℕ) (bytes : List ℕ) → mask_behind (suc d) bytes ≡ 2 * mask_behind d bytes
 mask_behind-more d bytes = grind (arith, mask_behind)
 
--- if this mask is 0, the bytes have no zero
+-- if `mask_behind d bytes` is 0, the bytes have no zero
 pub mask_behind-none : (d : ℕ) (bytes : List ℕ) → mask_behind d bytes ≡ 0 → HasNoZero bytes
 mask_behind-none zero bytes e = zero_mask-none bytes e
 mask_behind-none (suc d) bytes e = let m = mask_behind-more d bytes in mask_behind-none d bytes (omega arith)
 
--- if this mask isn't 0, the mask of the bytes alone isn't 0 either
+-- if `mask_behind d bytes` isn't 0, the mask of the bytes alone isn't 0 either
 pub mask_behind-some : (d : ℕ) (bytes : List ℕ) → mask_behind d bytes ≢ 0 → zero_mask bytes ≢ 0
 mask_behind-some zero bytes some = some
 mask_behind-some (suc d) bytes some = let m = mask_behind-more d bytes in mask_behind-some d bytes (λ e. some (omega arith))

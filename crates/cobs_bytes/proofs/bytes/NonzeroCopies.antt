@@ -32,6 +32,8 @@ two-copied source dest read at len n from to end inside room some few from-is to
     -- the first n bytes and the last n bytes
     let one : List ℕ = take n (drop read source) in
     let two : List ℕ = take n (drop from source) in
+    -- each of the two stores replaces a part of the list (`put_is`); at each index, the result has the same byte as the
+    -- copy (`same_lists`)
     put_is (put_chunk at dest one) two to n (length-chunk from n source (omega arith)) (omega (arith, length-put_chunk at dest one))
     ∙ ap (λ x. take to x ++ (two ++ drop (to + n) x)) (put_is dest one at n (length-chunk read n source (omega arith)) (omega arith))
     ∙ same_lists _ _ (search (rules, places)) (λ k d h. grind (arith, places))

@@ -17,6 +17,7 @@ by_piece-init c =
     record {
       stated = report-start _ _ _ _ c.new-text.ensures.bytes c.new-frames.ensures.kept c.new-source.ensures.bytes;
       few = few_at_start _ _ _ _ c.new-frames.ensures.kept c.new-source.ensures.bytes c.requires;
+      -- the new decoder is idle, and its buffer has room for the longest message
       idle = rw c.new-frames.ensures.decoder made.idle;
       buffer = ap (λ d. length (owned_buffer d)) c.new-frames.ensures.decoder ∙ ap length made.buffer ∙ length-replicate {A = ℕ} 65536 0;
     }

@@ -29,7 +29,9 @@ by_piece-preserved g c =
     -- the first remaining outcome is that of the piece that `feed_piece` took, by `outcomes` of `law_21`
     let one = rw (take_rest stream at, inv.len, drop-drop) at (c.law_21.ensures.outcomes _ _ _ _ _ _ _ t inv.idle) in
     record {
+      -- the index is still within the stream
       within = omega (arith, t.within.0, length-take (length stream - at) (drop at stream), length-drop at stream, inv.within);
+      -- the outcome of this piece is moved to the messages that were sent, if it is a message
       reported = relayed _ _ _ _ _ _ inv.reported one (rw (c.buffer.ensures.value, len) at c.in_ok-out.ensures.reported);
       at_sentinel = c.in_ok-out.ensures.at_sentinel;
       idle = t.idle;
