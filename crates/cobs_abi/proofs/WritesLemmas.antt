@@ -61,5 +61,6 @@ module _ {size taken : ℕ} {IsWanted IsEnded : List ℕ → Type 0} {buffer par
             subst IsEnded (sym whole) (ended (take result.length part) (w.wanted fits));
         -- this case is impossible, because the frame and the terminator fit
         too_small = λ long. absurd (omega arith);
+        -- the bytes after the terminator are as they were before the call
         rest = behind_terminator buffer part last result.length s len (omega arith) (omega arith) w.rest;
       }

@@ -31,6 +31,7 @@ words-written text words end some is =
     -- the copied part and the zero, which have end + 1 bytes
     let whole : List ℕ = take end words ++ 0 ∷ [] in
     let len : length whole ≡ end + 1 = length-append (take end words) (0 ∷ []) ∙ ap (λ (k : ℕ). k + 1) front in
+    -- the zero overwrites the byte after the copied part; then the buffer is written as `overwritten` states it
     ap (λ (l : List ℕ). set (take end words ++ l) end 0) more ∙ set_at (take end words) (get_or text end 0) (drop (end + 1) text) 0 end front
     ∙ sym (append_assoc (take end words) (0 ∷ []) (drop (end + 1) text)) ∙ ap (λ (k : ℕ). whole ++ drop k text) (sym len)
     ∙ ap (λ (l : List ℕ). l ++ drop (length whole) text) (sym (take_all (length text) whole (omega arith)))

@@ -58,6 +58,7 @@ module _ (shorter : (p : List ℕ) → length (output p) ≤ length p) where
   -- after the d decoded bytes, the buffer is as it was before the call
   pub behind-kept : (t : List ℕ) (d : ℕ) → d ≡ length (kept_output (head t)) → d ≤ length t → drop d (in_place t) ≡ drop d t
   behind-kept t d is within =
+      -- the buffer after decoding: the kept output, and then the old bytes after as many bytes
       let kept : List ℕ = kept_output (head t) in
       ap (λ (x : List ℕ). drop d (x ++ drop (length kept) t)) (take_all (length t) kept (omega (arith, is, within)))
       ∙ ap (λ (k : ℕ). drop k (kept ++ drop (length kept) t)) is ∙ drop-append_seam kept (drop (length kept) t) ∙ ap (λ (k : ℕ). drop k t) (sym is)

@@ -85,6 +85,7 @@ module _ (law : HeadLaw) (buffer : List ℕ) (end s : ℕ) (within : end ≤ len
   -- if only the bytes before `end` are decoded in place, the buffer is the one that `DecodesInPlaceFor` states
   pub front-buffer : in_place (xor_each s (take end buffer)) ++ drop end buffer ≡ (let frame = head (xor_each s buffer) in overwritten frame (kept_output frame) ++ drop (length frame) buffer)
   front-buffer =
+      -- the XORed bytes are their own head, there are `end` of them, and they are the head of the XORed buffer
       ap (λ (h : List ℕ). overwritten (xor_each s (take end buffer)) (kept_output h) ++ drop end buffer) head_of_front
       ∙ ap (λ (k : ℕ). overwritten (xor_each s (take end buffer)) (kept_output (xor_each s (take end buffer))) ++ drop k buffer) (sym len)
       ∙ ap (λ (f : List ℕ). overwritten f (kept_output f) ++ drop (length f) buffer) is_head

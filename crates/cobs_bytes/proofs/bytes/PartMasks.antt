@@ -36,6 +36,7 @@ or-window w len n front back long some few small front-is back-is =
     let lt : back * 2 ^ k < 2 ^ length (drop k w) * 2 ^ k = mul-lt-mul_of_pos_right (omega (arith, zero_mask-lt (drop k w))) (pow_pos k) in
     let most : 2 ^ (length (drop k w) + k) ≤ 2 ^ 64 = pow-le-pow_right {n = 2} (omega arith) {i = length (drop k w) + k} {j = 64} (omega arith) in
     let kept : back * 2 ^ k % 18446744073709551616 ≡ back * 2 ^ k + 0 = omega (arith, pow-add 2 (length (drop k w)) k) in
+    -- the joined mask and the mask of the bytes have the same bit at each place i
     ap (bit_or front) kept ∙ same_from_bits (bit_or front (back * 2 ^ k + 0)) (zero_mask w) (λ i. ⊎_elim
     -- a bit before index k is a bit of `front` only
     (λ (low : i < k). grind (arith, bit_at_or, bit_at_cat_low, bit_at-zero, bit_at-zero_mask, get_or-take))

@@ -66,6 +66,7 @@ module _ (source dest : List ℕ) (s n : ℕ) (long : n ≤ length source) (shor
   -- if both masks are 0, no byte of the XORed source is 0
   pub parts-nonzero : bit_or (mask source s n 0) (mask source s n at) ≡ 0 → HasNoZero coded
   parts-nonzero none =
+      -- the number of XORed bytes, which the tactics below need
       let long' = coded-long in
       let clear = or-none _ _ _ _ (mask-is source s n 0 small (omega arith)) (mask-is source s n at small (omega arith)) none in
       subst HasNoZero whole
@@ -74,6 +75,7 @@ module _ (source dest : List ℕ) (s n : ℕ) (long : n ≤ length source) (shor
   -- if no byte of the XORed source is 0, both masks are 0
   pub parts-clear : HasNoZero coded → bit_or (mask source s n 0) (mask source s n at) ≡ 0
   parts-clear nz =
+      -- the number of XORed bytes, which the tactics below need
       let long' = coded-long in
       let none : (i : ℕ) → i + n ≤ length source → mask source s n i ≡ 0 = λ i inside. mask-is source s n i small inside ∙ zero_mask-clear (take n (drop i coded)) (All-take (λ b. b ≢ 0) n (drop i coded) (All-drop (λ b. b ≢ 0) i coded nz)) in
       grind (arith, mask, at)
@@ -81,6 +83,7 @@ module _ (source dest : List ℕ) (s n : ℕ) (long : n ≤ length source) (shor
   -- after both parts are stored, `dest` begins with the XORed source, and its other bytes are as they were
   pub parts-copied : put_chunk at (put_chunk 0 dest (part source s n 0)) (part source s n at) ≡ coded ++ drop (length source) dest
   parts-copied =
+      -- the number of XORed bytes, which the tactics below need
       let long' = coded-long in
       ap (λ x. put_chunk at (put_chunk 0 dest x) (part source s n at)) (part-is source s n 0 (omega arith))
       ∙ ap (put_chunk at (put_chunk 0 dest (take n coded))) (part-is source s n at (omega arith))

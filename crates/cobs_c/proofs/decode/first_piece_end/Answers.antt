@@ -21,7 +21,7 @@ returns-then-end-source-clause-some c =
     -- the searched range consists of the bytes of the source after its leading zeros
     let rest-is = take_rest c.args.source.now c.leading_zeros-start.result ∙ ap (λ (k : ℕ). drop k c.args.source.now) c.leading_zeros-start.ensures.count in
     let other = c.if-len-eq0.false in
-    -- the searched range; the piece has `len` bytes (`long`)
+    -- the searched range; the piece has `len` bytes (`long`), and `len` isn't 0 (`other`)
     let rest : List ℕ = take (length c.args.source.now - c.leading_zeros-start.result) (drop c.leading_zeros-start.result c.args.source.now) in
     let long = length-take-le c.first_sentinel-len.result rest e.within in
     let start = c.leading_zeros-start.ensures.count in
@@ -38,7 +38,7 @@ returns-else-end-source-clause-some c =
     -- the searched range consists of the bytes of the source after its leading zeros
     let rest-is = take_rest c.args.source.now c.leading_zeros-start.result ∙ ap (λ (k : ℕ). drop k c.args.source.now) c.leading_zeros-start.ensures.count in
     let other = c.if-len-eq0.false in
-    -- the searched range; the piece has `len` bytes (`long`)
+    -- the searched range; the piece has `len` bytes (`long`), and `len` isn't 0 (`other`)
     let rest : List ℕ = take (length c.args.source.now - c.leading_zeros-start.result) (drop c.leading_zeros-start.result c.args.source.now) in
     let long = length-take-le c.first_sentinel-len.result rest e.within in
     let r = ap length (take_rest c.args.source.now c.leading_zeros-start.result) ∙ length-drop c.leading_zeros-start.result c.args.source.now in
