@@ -1,6 +1,7 @@
--- Lemmas on a broken frame that was decoded in place. The decoded bytes are no longer than the frame (`broken-within`),
--- and the rest of the buffer is as it was (`behind-kept`). So a search after the decoded bytes finds the zero after the
--- frame (`head-drop`).
+-- Lemmas on a broken frame that was decoded in place, for `decode_long_in_place`. The head of a buffer consists of the
+-- bytes before its first zero. The decoded bytes are no longer than the frame (`broken-within`), and the rest of the
+-- buffer is as it was (`behind-kept`). So a search after the decoded bytes finds the zero after the frame
+-- (`head-drop`).
 use Rattle.std.proofs.Common.{◌≡◌, ◌≤◌, ◌+◌, ◌++◌, ◌∙◌, ℕ, zero, suc, List, [], ◌∷◌, Err, length, drop, sym, ap, arith, take_all}
 use Rattle.std.proofs.lemmas.Bool.{cases_Bool, ne_eqb}
 use Rattle.std.proofs.lemmas.List.{length-take}
@@ -16,7 +17,8 @@ head-cons : (b : ℕ) (t : List ℕ) → head (suc b ∷ t) ≡ suc b ∷ head t
 unfolding head
 head-cons b t = grind (arith, slice_split-cons_no, ne_eqb)
 
--- after the first bytes of the head, the rest of the head follows
+-- if the first k bytes of a list are within its head, the rest of the head is the head of the list without these k
+-- bytes; stated for the lengths
 pub head-drop : (k : ℕ) (t : List ℕ) → k ≤ length (head t) → length (head t) ≡ k + length (head (drop k t))
 unfolding head
 head-drop zero t within = omega arith
@@ -31,28 +33,32 @@ head-within [] = omega arith
 head-within (zero ∷ t) = omega arith
 head-within (suc b ∷ t) = omega (arith, ap length (head-cons b t), head-within t)
 
--- the number of decoded bytes in the error for a head is the length of its kept output
+-- If the report for a head h is the error `InvalidFrame d`, d is the length of the kept output of h. n is the number of
+-- bytes before the zero, which an error doesn't report.
 count-of : (n : ℕ) (h : List ℕ) (d : ℕ) → Err (InvalidFrame d) ≡ report_result n (head_result h) → d ≡ length (kept_output h)
 count-of n [] d e = absurd cc
 count-of n (x ∷ h) d e = grind (arith, cases_Bool)
 
--- a broken frame, whose whole blocks decode to d bytes
+-- `shorter` is a clause of `law_1`: the output of a piece isn't longer than the piece
 module _ (shorter : (p : List ℕ) → length (output p) ≤ length p) where
   -- the kept output of a piece isn't longer than the piece
   kept-within : (p : List ℕ) → length (kept_output p) ≤ length p
   unfolding kept_output
   kept-within p = let l = shorter p in grind (arith, cases_Bool, length-take)
 
-  -- d is the length of the kept output, which is at most the length of the frame
+  -- if decoding t in place returned the error `InvalidFrame d`, d is the length of the kept output of the frame, and d
+  -- is at most the length of the frame, which is at most the length of t
   pub broken-within : (t : List ℕ) (d : ℕ) → Err (InvalidFrame d) ≡ in_place_report t → (d ≡ length (kept_output (head t))) × (d ≤ length (head t)) × (length (head t) ≤ length t)
   broken-within [] d e = absurd cc
   broken-within (b ∷ t) d e =
+      -- d is the length of the kept output
       let count = count-of (length (head (b ∷ t))) (head (b ∷ t)) d e in
       (count, omega (arith, count, kept-within (head (b ∷ t))), head-within (b ∷ t))
 
-  -- after these d bytes the buffer is unchanged
+  -- after the d decoded bytes, the buffer is as it was before the call
   pub behind-kept : (t : List ℕ) (d : ℕ) → d ≡ length (kept_output (head t)) → d ≤ length t → drop d (in_place t) ≡ drop d t
   behind-kept t d is within =
+      -- the buffer after decoding: the kept output, and then the old bytes after as many bytes
       let kept : List ℕ = kept_output (head t) in
       ap (λ (x : List ℕ). drop d (x ++ drop (length kept) t)) (take_all (length t) kept (omega (arith, is, within)))
       ∙ ap (λ (k : ℕ). drop k (kept ++ drop (length kept) t)) is ∙ drop-append_seam kept (drop (length kept) t) ∙ ap (λ (k : ℕ). drop k t) (sym is)

@@ -1,6 +1,8 @@
--- Lemmas on a run of `show`. After each read the facts of `HasShownSoFar` still hold (`more-..`), and the run is still
--- live (`live-..`). At the end of the input and after each fault, the text is the one that `HasShown` describes
--- (`shown-..`).
+-- Lemmas on a run of `show`. After each read the facts of `HasShownSoFar` still hold, and the run is still live
+-- (`live-next`, `given-next`). The lemmas `more-..` are about a read that returned bytes, and `hung-up` is about a
+-- hang-up; they are the parts of `HasShownSoFar` after the read. At the end of the input and after each fault, the text
+-- is the one that `HasShown` describes (`shown-..`).
+-- `law_9`: A stream may be cut anywhere.
 use Rattle.std.proofs.Common.{◌≡◌, ◌≢◌, ◌≤◌, ◌+◌, ◌↔◌, ℕ, Bool, true, false, List, [], ◌∷◌, ◌++◌, length, map, take, drop, refl, sym, ap, ◌∙◌, subst, arith, append-nil, append_assoc, length-append, Option, Some, None, Result, Ok, Err}
 use Rattle.std.specs.Prelude.{IfSome, IsErrAnd}
 use Rattle.std.proofs.Math.Seq.{take-append_seam}
@@ -37,35 +39,40 @@ use Rattle.cobs_live.specs.declared.fault.WatchFault.{WatchFault}
 use Rattle.cobs_live.specs.declared.fault.WatchFault.TheVariants.{OutOfMemory, OutputClosed, ReadFailed, WriteFailed}
 use Rattle.cobs_live.specs.declared.tally.Tally.{Tally}
 
--- a decoder that is idle has taken no byte of a piece
+-- after p, the front of a piece, the decoder is idle exactly if p is empty; so `begun`, which is false exactly if the
+-- decoder is idle, says whether p isn't empty
 pub begun-after : (p : List ℕ) (n : ℕ) (phase : Phase) (begun : Bool) → phase ≡ phase_after p n → ((begun ≡ false) ↔ (phase ≡ Idle)) → begun ≡ is_nonempty p
 unfolding phase_after
 begun-after [] n phase begun is idle = idle.1 is
 begun-after (b ∷ bs) n phase true is idle = refl
 begun-after (b ∷ bs) n phase false is idle = grind arith
 
--- a fact holds whether or not the bytes of a reader are known
+-- if P holds, it holds in particular if the bytes of a reader are known
 pub whatever : (from : Option (List ℕ)) (P : Type 0) → P → IfSome from (λ _. P)
 whatever None P p = tt
 whatever (Some xs) P p = p
 
--- before the first read
+-- before the first read, a new watch has shown nothing: no line has hung up, no byte was read, and no piece has ended
 pub HasShownSoFar-start : (law : StreamLaw) (settings : Settings) (from before : Option (List ℕ)) (watch : Watch) → DecoderAfter watch.message.items (phase_of watch.decoder) []
     → IsTallyOf settings.view.checksum watch.tally [] 0 → watch.clock.last.millis ≡ 0 → length watch.message.items ≡ settings.length → watch.settings.now ≡ settings → watch.skipping ≡ settings.skip_first
     → HasShownSoFar settings from from before before watch
 HasShownSoFar-start law settings from before watch idle none first len same skips =
     let no_zero = All-nil (λ (b : ℕ). b ≢ 0) in
+    -- no bytes have no outcome
     let no_outcomes : stream_outcomes (begun settings.skip_first []) settings.length ≡ [] = ap (λ (t : List ℕ). stream_outcomes t settings.length) (begun-none settings.skip_first) ∙ law.none [] settings.length no_zero in
     record {
       ended = record {
         gone = [];
         bytes = [];
         times = λ number. watch.clock.last;
+        -- all pieces have the time of the clock, which is 0
         timeline = record { start = first; rises = λ number. omega arith };
         alone = whatever from _ refl;
         read = Consumes-nil from;
+        -- no text is written, because no piece has ended
         written = rw (all_ended-none (begun settings.skip_first []) settings.length no_outcomes, shown_from-none settings.view (λ number. watch.clock.last) 0) (Appends-nil before);
       };
+      -- the decoder has been fed nothing, and nothing is counted
       taken = rw (begun-none settings.skip_first, law.same [] no_zero) idle;
       tallied = rw no_outcomes none;
       timed = refl;
@@ -74,14 +81,17 @@ HasShownSoFar-start law settings from before watch idle none first len same skip
       skips = skips ∙ sym (skips_on-none settings.skip_first);
     }
 
--- the text of the pieces that ended in the bytes so far
+-- if the reads returned the bytes and hang-ups of the state so far, the text that was written is right for these
+-- results
 pub HoldsText-so_far : {settings : Settings} {from to before after : Option (List ℕ)} {watch : Watch} (s : HasShownSoFar settings from to before after watch) (came : List (List (Option ℕ))) → joined came ≡ letters_of s.ended.gone s.ended.bytes → HoldsText settings before came after
 HoldsText-so_far s came e = record { gone = s.ended.gone; bytes = s.ended.bytes; lines = e; times = s.ended.times; timeline = s.ended.timeline; written = s.ended.written }
 
--- before the first read a run is live
+-- before the first read, a run whose watch has shown nothing is live, for any bytes `from` of the reader; the premise
+-- is stated for a reader whose known bytes are empty
 pub HasShownSoFar-live : {S : Type 0} (step : S → Read (Option ℕ) → S → Type 0) (source : S) {settings : Settings} (from : Option (List ℕ)) {before : Option (List ℕ)} {watch : Watch} → HasShownSoFar settings (Some []) (Some []) before before watch
     → IsLiveSoFar step source source settings from from before before watch
 HasShownSoFar-live step source from s =
+    -- no byte was read, and no line has hung up (`first`)
     let none : s.ended.bytes ≡ [] = sym (append-nil s.ended.bytes) ∙ sym s.ended.read in
     let first : s.ended.gone ≡ [] = s.ended.alone in
     record {
@@ -95,15 +105,18 @@ HasShownSoFar-live step source from s =
         skips = s.skips;
       };
       live = live-none step source _;
+      -- no read was made, so there are no results
       given = sym (ap (letters_of s.ended.gone) none ∙ ap (λ (g : List (List ℕ)). letters_of g []) first);
     }
 
+-- a run that is live so far, and its next read, which changes the source from `mid` to `source'` and has the result
+-- `letters`
 module _ {S : Type 0} {step : S → Read (Option ℕ) → S → Type 0} {source mid source' : S} {settings : Settings} {from to before after : Option (List ℕ)} {watch : Watch} {letters : List (Option ℕ)} where
-  -- a run is live after its next read
+  -- the run is still live with this read
   abbrev pub live-next : IsLiveSoFar step source mid settings from to before after watch → ReadsOnce step mid source' after letters → IsLive step source source' (HoldsText settings before)
   live-next s r = live-more s.live r (λ nothing none. HoldsText-so_far s.so_far (came s.live.reads ++ nothing) (joined-append (came s.live.reads) nothing ∙ ap (λ (x : List (Option ℕ)). joined (came s.live.reads) ++ x) none ∙ append-nil _ ∙ s.given))
 
-  -- the results of its reads
+  -- the results of all reads are the results so far, and then those of this read
   pub given-next : (s : IsLiveSoFar step source mid settings from to before after watch) (r : ReadsOnce step mid source' after letters) → joined (came (live-next s r).reads) ≡ letters_of s.so_far.ended.gone s.so_far.ended.bytes ++ letters
   given-next s r = came-more s.live.reads r ∙ ap (λ (x : List (Option ℕ)). x ++ letters) s.given
 
@@ -111,58 +124,64 @@ module _ {S : Type 0} {step : S → Read (Option ℕ) → S → Type 0} {source 
 pub same-tallied : (a b : Settings) (tally : Tally) (outcomes : List Outcome) (read : ℕ) → a ≡ b → IsTallyOf a.view.checksum tally outcomes read → IsTallyOf b.view.checksum tally outcomes read
 same-tallied a b tally outcomes read same t = grind arith
 
--- a writer whose buffer is empty, before and after the call
+-- if a writer's buffer is empty before and after a call, the text that was appended to the contents and the buffer was
+-- appended to the contents alone
 pub flushed-Appends : (inner inner' : Option (List ℕ)) (held held' text : List ℕ) → held ≡ [] → held' ≡ [] → Appends (append_known inner held) (append_known inner' held') text → Appends inner inner' text
 flushed-Appends None inner' held held' text none none' w = tt
 flushed-Appends (Some xs) None held held' text none none' w = absurd w
 flushed-Appends (Some xs) (Some ys) held held' text none none' w = grind (arith, append-nil)
 
--- if an input hangs up, nothing is known about its bytes
+-- if the reader's bytes aren't known after a hang-up (`to`), they weren't known before either, so any P holds if they
+-- were known
 pub unknown-alone : (from to : Option (List ℕ)) (bytes : List ℕ) (P : Type 0) → to ≡ None → Consumes from to bytes → IfSome from (λ _. P)
 unknown-alone None to bytes P none c = tt
 unknown-alone (Some xs) to bytes P none c = grind arith
 
--- and nothing is claimed about the bytes that were read from it
+-- if the reader's bytes aren't known after a hang-up (`to`), nothing is claimed about the bytes that were read before
+-- it
 pub unknown-read : (from to to' : Option (List ℕ)) (bytes : List ℕ) → to ≡ None → Consumes from to bytes → Consumes from to' []
 unknown-read None to to' bytes none c = tt
 unknown-read (Some xs) to to' bytes none c = grind arith
 
+-- s is the state of a run before its next read
 module _ (law : StreamLaw) {settings : Settings} {from to before after : Option (List ℕ)} {watch : Watch} (s : HasShownSoFar settings from to before after watch) where
-  -- whether the begin of the open line is skipped
+  -- whether the beginning of the open line is skipped
   abbrev pub skip : Bool
   skip = skips_behind settings.skip_first s.ended.gone
 
-  -- the streams of the lines that hung up, the outcomes of their pieces, and the stream of the open line
+  -- the streams of the lines that hung up
   abbrev pub streams : List (List ℕ)
   streams = gone_streams settings s.ended.gone
 
+  -- the outcomes of the pieces of these lines
   abbrev pub before_open : List Outcome
   before_open = outcomes_of streams settings.length
 
+  -- the stream of the open line
   abbrev pub opened : List ℕ
   opened = open_stream settings s.ended.gone s.ended.bytes
 
-  -- the part of the stream that more bytes add
+  -- the bytes that `more` bytes of the open line add to its stream
   abbrev pub newly : List ℕ → List ℕ
   newly more = begun watch.skipping (xor_each watch.settings.now.sentinel more)
 
-  -- WITH MORE BYTES of the open line: its stream
+  -- WITH MORE BYTES of the open line: its stream is the stream so far, and then these new bytes
   pub more-stream : (more : List ℕ) → open_stream settings s.ended.gone (s.ended.bytes ++ more) ≡ opened ++ newly more
   more-stream more = grind (arith, map-append, begun-append)
 
-  -- whether bytes are still skipped
+  -- whether bytes are still skipped after `more` bytes
   pub more-skips : (more : List ℕ) → skips_on watch.skipping (xor_each watch.settings.now.sentinel more) ≡ skips_on skip (xor_each settings.sentinel (s.ended.bytes ++ more))
   more-skips more = grind (arith, map-append, skips_on-append)
 
-  -- the unended bytes, which the decoder has taken
+  -- the unended bytes of the open line with `more` bytes, which the decoder has taken
   pub more-left : (more : List ℕ) → unended (open_stream settings s.ended.gone (s.ended.bytes ++ more)) ≡ unended (unended opened ++ newly more)
   more-left more = ap unended (more-stream more) ∙ law.left opened (newly more)
 
-  -- the outcomes of the pieces that end in more bytes
+  -- the outcomes of the pieces that end in `more` bytes
   abbrev pub new_outcomes : List ℕ → List Outcome
   new_outcomes more = stream_outcomes (unended opened ++ newly more) (length watch.message.items)
 
-  -- all outcomes
+  -- all outcomes with `more` bytes are those so far, and then the new ones
   pub more-outcomes : (more : List ℕ) → all_outcomes settings s.ended.gone (s.ended.bytes ++ more) ≡ all_outcomes settings s.ended.gone s.ended.bytes ++ new_outcomes more
   more-outcomes more =
       ap (λ (t : List ℕ). before_open ++ stream_outcomes t settings.length) (more-stream more)
@@ -170,49 +189,50 @@ module _ (law : StreamLaw) {settings : Settings} {from to before after : Option 
       ∙ ap (λ (k : ℕ). before_open ++ (stream_outcomes opened settings.length ++ stream_outcomes (unended opened ++ newly more) k)) (sym s.len)
       ∙ sym (append_assoc before_open (stream_outcomes opened settings.length) (new_outcomes more))
 
-  -- the pieces that have ended in the open line
+  -- the pieces that have ended in the open line with `more` bytes are those so far, and then the pieces that end in
+  -- `more`
   pub more-pieces : (more : List ℕ) → all_ended (open_stream settings s.ended.gone (s.ended.bytes ++ more)) settings.length
       ≡ all_ended opened settings.length ++ all_ended (unended opened ++ newly more) (length watch.message.items)
   more-pieces more = grind (arith, more-stream, all_ended-append)
 
-  -- the number of bytes
+  -- the number of bytes that were read grows by the number of `more`
   more-count : (more : List ℕ) → count_bytes s.ended.gone (s.ended.bytes ++ more) ≡ count_bytes s.ended.gone s.ended.bytes + length more
   more-count more = grind (arith, length-append)
 
-  -- the tally
+  -- a tally of the outcomes so far, the new outcomes and the read bytes is the tally of the lines with `more` bytes
   pub more-tallied : (tally : Tally) (more : List ℕ)
       → IsTallyOf watch.settings.now.view.checksum tally (all_outcomes settings s.ended.gone s.ended.bytes ++ new_outcomes more) (count_bytes s.ended.gone s.ended.bytes + length more)
       → IsTallyOf settings.view.checksum tally (all_outcomes settings s.ended.gone (s.ended.bytes ++ more)) (count_bytes s.ended.gone (s.ended.bytes ++ more))
   more-tallied tally more t = grind (arith, more-outcomes, more-count, same-tallied)
 
-  -- how many pieces had ended
+  -- the number of pieces that have ended so far
   abbrev pub known : ℕ
   known = length (all_outcomes settings s.ended.gone s.ended.bytes)
 
-  -- the times of all pieces, if the next pieces are read now
+  -- the times of all pieces, if the pieces that end in `more` bytes are read at the time `now`
   abbrev pub more-times : Moment → ℕ → Moment
   more-times now = extended s.ended.times known now
 
-  -- the clock at these times
+  -- a clock whose last time is the one so far fits these times
   pub more-read : (clock : Times) → clock.last ≡ watch.clock.last → IsReadAt (more-times clock.next) known clock
   more-read clock same = IsReadAt-extended s.ended.times known clock.next clock (same ∙ s.timed) refl
 
-  -- the time of the last piece
+  -- after the new pieces, the clock's last time is the time of the last piece of all
   pub more-timed : (clock : Times) (now : Moment) (more : List ℕ)
       → IsReadAt (more-times now) (length (all_outcomes settings s.ended.gone s.ended.bytes ++ new_outcomes more)) clock
       → clock.last ≡ more-times now (length (all_outcomes settings s.ended.gone (s.ended.bytes ++ more)))
   more-timed clock now more r = grind (arith, more-outcomes)
 
-  -- the text of the pieces that end in more bytes
+  -- the text of the pieces that end in `more` bytes
   abbrev pub new_text : View → Moment → List ℕ → List ℕ
   new_text view now more = shown_from view (more-times now) known (all_ended (unended opened ++ newly more) (length watch.message.items))
 
-  -- the text of the lines, with this text
+  -- the text of the lines with `more` bytes is the text so far, and then the new text
   pub more-text : (now : Moment) (more : List ℕ) → shown_lines settings (more-times now) s.ended.gone (s.ended.bytes ++ more)
       ≡ shown_lines settings s.ended.times s.ended.gone s.ended.bytes ++ new_text settings.view now more
   more-text now more = grind (arith, length-append, length-all_ended, more-pieces, shown_from-append, append_assoc, shown_gone-extended, shown_from-extended)
 
-  -- this text has been written
+  -- if the new text was written, the text of the lines with `more` bytes has been written
   abbrev pub more-ended : {to' after' : Option (List ℕ)} (more : List ℕ) (now : Moment) → watch.clock.last.millis ≤ now.millis → Consumes to to' more
       → Appends after after' (new_text watch.settings.now.view now more)
       → HasWritten (shown_lines settings) from to' before after'
@@ -220,16 +240,21 @@ module _ (law : StreamLaw) {settings : Settings} {from to before after : Option 
     gone = s.ended.gone;
     bytes = s.ended.bytes ++ more;
     times = more-times now;
+    -- `now` isn't before the times so far (`later`), so the times are still a timeline
     timeline = IsTimeline-extended s.ended.times known now s.ended.timeline (omega (arith, later, ap (λ (m : Moment). m.millis) s.timed));
     alone = s.ended.alone;
+    -- the reads so far consumed the bytes so far, and this read consumed `more`
     read = Consumes-trans from to to' s.ended.bytes more s.ended.read r;
+    -- the text so far was written, and then the new text
     written = subst (Appends before after') (sym (more-text now more))
         (Appends-trans before after after' _ _ s.ended.written (subst (λ (w : Settings). Appends after after' (new_text w.view now more)) s.same written));
   }
 
-  -- no byte follows, and the text says whether a piece has begun
+  -- if no byte follows, and the text that `ShowsEnd` describes was written, the text of the ended input has been
+  -- written; it says whether a piece has begun
   pub shown-ended : {to' after' : Option (List ℕ)} → Consumes to to' [] → ShowsEnd (phase_of watch.decoder) watch.settings.now.view after after' → HasWritten (shown_ended settings) from to' before after'
   shown-ended {to' = to'} {after' = after'} r end =
+      -- a piece has begun exactly if the open line has unended bytes
       let is : end.begun ≡ is_nonempty (unended opened) = begun-after (unended opened) (length watch.message.items) (phase_of watch.decoder) end.begun s.taken.phased.phase_is end.idle in
       record {
         gone = s.ended.gone;
@@ -237,96 +262,108 @@ module _ (law : StreamLaw) {settings : Settings} {from to before after : Option 
         times = s.ended.times;
         timeline = s.ended.timeline;
         alone = s.ended.alone;
+        -- the bytes so far are all bytes that were read
         read = subst (Consumes from to') (append-nil s.ended.bytes) (Consumes-trans from to to' s.ended.bytes [] s.ended.read r);
+        -- the text so far was written, and then the text of `ShowsEnd`
         written = Appends-trans before after after' _ _ s.ended.written (rw (s.same, is) at end.written);
       }
 
-  -- a read that failed removed no byte from the input
+  -- a read that failed removed no byte from the input, so it consumed no byte
   pub nothing-read : (to' : Option (List ℕ)) → Keeps to to' → Consumes to to' []
   nothing-read to' kept = Consumes-kept to to to' [] (Consumes-nil to) kept
 
-  -- the next read failed
+  -- if the next read failed, and the text of the ended input has been written, `ShowsNext` holds for the fault
+  -- `ReadFailed`
   pub next-failed : (to' after' : Option (List ℕ)) (fault : WatchFault) → fault ≡ ReadFailed → HasWritten (shown_ended settings) from to' before after' → ShowsNext settings (Err fault) from to' before after' watch
   next-failed to' after' fault is w = grind arith
 
-  -- the input is at its end
+  -- if the input is at its end, and the text that `ShowsEnd` describes was written, all of the input has been shown
+  -- (`HasShownAll`)
   pub shown-all : {to' after' : Option (List ℕ)} → Consumes to to' [] → IsAtEnd to' → ShowsEnd (phase_of watch.decoder) watch.settings.now.view after after' → HasShownAll settings watch.tally from to' before after'
   unfolding shown-ended
   shown-all r at_end end = record { all = shown-ended r end; tallied = s.tallied; end = at_end }
 
   -- THE LINE HUNG UP
 
-  -- no byte of the next line was read
+  -- before a byte of the next line is read, its stream is empty
   pub not_begun : (b : Bool) → stream_of settings b [] ≡ []
   not_begun b = begun-none b
 
-  -- so its stream has no outcome
+  -- so the stream of the next line has no outcome yet
   no_outcomes : (b : Bool) → stream_outcomes (stream_of settings b []) settings.length ≡ []
   no_outcomes b = ap (λ (t : List ℕ). stream_outcomes t settings.length) (not_begun b) ∙ law.none [] settings.length (All-nil (λ (b : ℕ). b ≢ 0))
 
-  -- the streams of the lines that hung up
+  -- with the open line, the streams of the lines that hung up are one more: the stream of this line
   gone-streams : gone_streams settings (s.ended.gone ++ s.ended.bytes ∷ []) ≡ streams ++ opened ∷ []
   gone-streams = grind (arith, streams_of-gone)
 
-  -- all outcomes, which the hang-up doesn't change
+  -- the hang-up doesn't change the outcomes of all lines
   pub gone-outcomes : all_outcomes settings (s.ended.gone ++ s.ended.bytes ∷ []) [] ≡ all_outcomes settings s.ended.gone s.ended.bytes
   gone-outcomes = grind (arith, no_outcomes, append-nil, gone-streams, outcomes_of-gone)
 
-  -- the text of the lines, with the text of the hang-up
+  -- the text of the lines after the hang-up is the text so far, and then the text of the hang-up
   pub gone-text : shown_lines settings s.ended.times (s.ended.gone ++ s.ended.bytes ∷ []) []
       ≡ shown_lines settings s.ended.times s.ended.gone s.ended.bytes ++ shown_hang_up settings.view (is_nonempty (unended opened))
   gone-text = grind (arith, all_ended-none, no_outcomes, shown_from-none, append-nil, gone-streams, shown_gone-gone, append_assoc)
 
-  -- the state after the hang-up
+  -- the state after the hang-up: the open line is the last one that hung up, and the next line has no byte yet
   abbrev pub hung-up : {to' after' : Option (List ℕ)} {watch' : Watch} → to ≡ None → ShowsHangUp (phase_of watch.decoder) watch.settings.now.view after after' → BeginsAnew watch watch'
       → HasShownSoFar settings from to' before after' watch'
   hung-up {to' = to'} {after' = after'} {watch' = watch'} unknown shows anew =
+      -- a piece had begun exactly if the open line had unended bytes
       let is : shows.begun ≡ is_nonempty (unended opened) = begun-after (unended opened) (length watch.message.items) (phase_of watch.decoder) shows.begun s.taken.phased.phase_is shows.idle in
       record {
         ended = record {
+          -- the open line is now the last line that hung up, and no byte of the next line was read
           gone = s.ended.gone ++ s.ended.bytes ∷ [];
           bytes = [];
           times = s.ended.times;
           timeline = s.ended.timeline;
+          -- the reader's bytes aren't known (`unknown`), so nothing is claimed about them
           alone = unknown-alone from to s.ended.bytes _ unknown s.ended.read;
           read = unknown-read from to to' s.ended.bytes unknown s.ended.read;
+          -- the text so far was written, and then the text of the hang-up
           written = subst (Appends before after') (sym gone-text) (Appends-trans before after after' _ _ s.ended.written (rw (s.same, is) at shows.written));
         };
+        -- the decoder is idle, as it is before the next line
         taken = rw (not_begun (skips_behind settings.skip_first (s.ended.gone ++ s.ended.bytes ∷ [])), law.same [] (All-nil (λ (b : ℕ). b ≢ 0))) anew.taken;
+        -- the counts, the buffer, the times and the settings are as they were before the hang-up
         tallied = rw (gone-outcomes, count_bytes-gone s.ended.gone s.ended.bytes, anew.tally) s.tallied;
         len = ap (λ message. length message.items) anew.message ∙ s.len;
         timed = ap (λ (c : Times). c.last) anew.clock ∙ s.timed ∙ ap (λ (os : List Outcome). s.ended.times (length os)) (sym gone-outcomes);
         same = ap (λ settings. settings.now) anew.settings ∙ s.same;
+        -- bytes of the next line are skipped up to its first sentinel
         skips = anew.awaited ∙ sym (skips_on-none (skips_behind settings.skip_first (s.ended.gone ++ s.ended.bytes ∷ [])) ∙ skips_behind-gone settings.skip_first s.ended.gone s.ended.bytes);
       }
 
--- the contents of a vector that was written as a slice
+-- if a message of the same length was written over all items of a vector, the first `len` items of the vector are the
+-- message
 pub whole-message : (message items : List ℕ) (len : ℕ) → len ≡ length items → length message ≡ length items → take len (message ++ drop (length message) items) ≡ message
 whole-message message items len is same = grind (arith, take-append_seam)
 
--- a read that returned bytes
+-- if a read returned n bytes, its clause `Takes` is the one for n bytes
 pub takes-bytes : (from to : Option (List ℕ)) (gave : Came) (n : ℕ) (chunk : List ℕ) → gave ≡ Bytes n → Takes from to gave chunk → Takes from to (Bytes n) chunk
 takes-bytes from to gave n chunk is h = grind arith
 
--- a read that found a hang-up
+-- if a read found a hang-up, its clause `Takes` is the one for a hang-up
 pub takes-hang_up : (from to : Option (List ℕ)) (gave : Came) (chunk : List ℕ) → gave ≡ HungUp → Takes from to gave chunk → Takes from to HungUp chunk
 takes-hang_up from to gave chunk is h = grind arith
 
--- the result of a read that returned bytes
+-- the result of a read that returned n bytes is these bytes
 pub given-bytes : (E : Type 0) (gave : Came) (n : ℕ) (chunk : List ℕ) → gave ≡ Bytes n → given {E = E} (Ok gave) chunk ≡ map Some (take n chunk)
 given-bytes E gave n chunk is = grind arith
 
--- the result of a read that found a hang-up
+-- the result of a read that found a hang-up is one hang-up
 pub given-hang_up : (E : Type 0) (gave : Came) (chunk : List ℕ) → gave ≡ HungUp → given {E = E} (Ok gave) chunk ≡ None ∷ []
 given-hang_up E gave chunk is = grind arith
 
--- a run that ends with a fault has shown the text for that fault
+-- if the result of a run is this fault, and `HasShown` holds for this fault, it holds for the result
 pub shown-fault : (settings : Settings) (from to before after : Option (List ℕ)) (result : Result Tally WatchFault) (fault : WatchFault) → IsErrAnd result (λ found. found ≡ fault)
     → HasShown settings (Err fault) from to before after → HasShown settings result from to before after
 shown-fault settings from to before after (Err found) fault e s = grind arith
 shown-fault settings from to before after (Ok tally) fault e s = absurd e
 
--- after a write that failed, nothing is claimed about the shown text
+-- if the result of a run is a fault of a write, `HasShown` holds, because nothing is claimed about the text then
 pub unfinished-fault : (settings : Settings) (from to before after : Option (List ℕ)) (result : Result Tally WatchFault) (fault : WatchFault) → IsErrAnd result (λ found. found ≡ fault)
     → (fault ≢ ReadFailed) × (fault ≢ OutOfMemory) → HasShown settings result from to before after
 unfinished-fault settings from to before after (Err ReadFailed) fault e other = grind arith

@@ -1,8 +1,10 @@
--- Lemmas on the bytes after the first zero, which are shown if the bytes up to it are skipped.
+-- Lemmas on the bytes after the first zero, which are shown if the bytes up to this zero are skipped: bytes in two
+-- parts (`begun-append`, `skips_on-append`), and no bytes (`begun-none`, `skips_on-none`).
 use Rattle.std.proofs.Common.{◌≡◌, ◌==◌, ℕ, Bool, true, false, cond, List, [], ◌∷◌, ◌++◌, refl}
 use Rattle.cobs_live.specs.Watched.{begun, skips_on}
 
--- the bytes that aren't skipped, of bytes in two parts
+-- the bytes of `t ++ u` that aren't skipped: those of t, and then those of u; if bytes are still skipped after t, the
+-- bytes of u up to its first zero are skipped
 pub begun-append : (skipping : Bool) (t u : List ℕ) → begun skipping (t ++ u) ≡ begun skipping t ++ begun (skips_on skipping t) u
 begun-append false t u = refl
 begun-append true [] u = refl
@@ -11,7 +13,7 @@ begun-append true (byte ∷ bytes) u = elim (byte == 0) as (λ zero. cond zero (
   | false ↦ begun-append true bytes u
 ]
 
--- whether bytes are still skipped, after bytes in two parts
+-- whether bytes are still skipped after `t ++ u` depends only on u, and on whether they are still skipped after t
 pub skips_on-append : (skipping : Bool) (t u : List ℕ) → skips_on skipping (t ++ u) ≡ skips_on (skips_on skipping t) u
 skips_on-append false t u = refl
 skips_on-append true [] u = refl
@@ -20,7 +22,7 @@ skips_on-append true (byte ∷ bytes) u = elim (byte == 0) as (λ zero. cond zer
   | false ↦ skips_on-append true bytes u
 ]
 
--- without a byte, nothing changes
+-- without a byte, it doesn't change whether bytes are skipped
 pub skips_on-none : (skipping : Bool) → skips_on skipping [] ≡ skipping
 skips_on-none true = refl
 skips_on-none false = refl

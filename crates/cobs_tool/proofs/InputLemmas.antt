@@ -1,4 +1,6 @@
--- Lemmas on the bytes that a call has read from its input.
+-- Lemmas for `read_input`, on the bytes that a call has read from its input: the postcondition `HasRead` for the two
+-- ways in which the call fails after some reads, if the input is too long (`HasRead-too_long`) and if memory runs out
+-- (`HasRead-no_memory`).
 use Rattle.std.proofs.Common.{◌≡◌, ◌+◌, ◌<◌, ◌≤◌, ℕ, List, ◌++◌, length, Option, Some, None, Result, Ok, Err, ap, sym, ◌∙◌, append_assoc, arith, refl}
 use Rattle.std.specs.Prelude.{IsErrAnd}
 use Rattle.std.specs.Io.KnownBytes.{Consumes}
@@ -7,14 +9,15 @@ use Rattle.cobs_tool.specs.declared.fault.ToolFault.TheVariants.{InputTooLong, O
 use Rattle.cobs_tool.specs.declared.input.TheConstants.{READ_LEN}
 use Rattle.cobs_tool.specs.Input.{HasRead, max_input}
 
--- the bytes that two reads returned one after the other
+-- if one read returned xs, and the next read returned ys, both together returned `xs ++ ys`; a, b and c are the
+-- reader's unread bytes, if they are known
 pub Consumes-append : (a b c : Option (List ℕ)) (xs ys : List ℕ) → Consumes a b xs → Consumes b c ys → Consumes a c (xs ++ ys)
 Consumes-append None b c xs ys p q = tt
 Consumes-append (Some x) None c xs ys p q = absurd p
 Consumes-append (Some x) (Some y) None xs ys p q = absurd q
 Consumes-append (Some x) (Some y) (Some z) xs ys p q = p ∙ ap (λ l. xs ++ l) q ∙ sym (append_assoc xs ys z)
 
--- the input is too long
+-- more bytes than the limit were read, but not more than one read beyond it: the fault `InputTooLong` meets `HasRead`
 pub HasRead-too_long : {A : Type 0} (old new : Option (List ℕ)) (xs : List ℕ) → Consumes old new xs → max_input < length xs
     → length xs ≤ max_input + READ_LEN → HasRead {A = A} old new (Err InputTooLong)
 HasRead-too_long old new xs read long stopped = record {
@@ -26,7 +29,8 @@ HasRead-too_long old new xs read long stopped = record {
   whole_at_write = λ e. absurd cc;
 }
 
--- memory runs out while the input is read, or after that
+-- bytes within the limit were read, and the result is `OutOfMemory`: this meets `HasRead`. Every other result
+-- contradicts the premise.
 pub HasRead-no_memory : {A : Type 0} (old new : Option (List ℕ)) (xs : List ℕ) (result : Result A ToolFault) → Consumes old new xs → length xs ≤ max_input
     → IsErrAnd result (λ fault. fault ≡ OutOfMemory) → HasRead {A = A} old new result
 HasRead-no_memory old new xs (Err OutOfMemory) read within e = record {

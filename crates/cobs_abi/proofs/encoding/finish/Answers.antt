@@ -5,14 +5,17 @@ use Rattle.std.proofs.lemmas.Bool.{eqb-false}
 use Rattle.cobs_abi.proofs.FinishLemmas.{Finishes-finalized, Finishes-refused}
 use Rattle.cobs_abi.proofs.encoding.finish.Goals as goal
 
+-- `finalize` wrote the frame
 pub returns-in-Ok : goal.returns-in-Ok
 returns-in-Ok c =
     let e = c.in-Ok.ensures in
+    -- the call returns early for an empty buffer, so this buffer isn't empty
     let some : length c.args.buffer.now ≢ 0 = eqb-false _ 0 (sym c.is_empty.ensures ∙ c.if-is_empty.false) in
     record {
       finishes = rw c.done.ensures (Finishes-finalized some e.len (λ m h. (e.frame m h, e.no_sentinel m h)) e.end e.within (record { start = e.start; taken = e.taken }) e.rest e.buffer_len);
     }
 
+-- `finalize` failed, so the encoder hasn't taken any message in this buffer, and nothing has changed
 pub returns-in-Err : goal.returns-in-Err
 returns-in-Err c =
     let e = c.in-Err.ensures in

@@ -1,4 +1,6 @@
--- Both vectors are loaded before either is stored, so the moved bytes are the bytes before the call (`two-copied`).
+-- The first and the last N of the moved bytes are stored at the front of the buffer. Both vectors are loaded before
+-- either is stored, so both contain bytes of the buffer before the call, and `two-copied` is about one list as source
+-- and as destination.
 use Rattle.std.proofs.Common.{arith}
 use Rattle.cobs_bytes.proofs.bytes.NonzeroCopies.{two-copied}
 use Rattle.cobs_bytes.proofs.lanes.move_two.Goals as goal

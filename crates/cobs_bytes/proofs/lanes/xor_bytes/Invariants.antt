@@ -1,4 +1,4 @@
--- The bytes before the index are XORed with the sentinel, and the others are as they were.
+-- The bytes before the index are XORed with the sentinel, and the others are as they were before the call.
 use Rattle.std.proofs.Common.{◌≡◌, ◌++◌, take, drop}
 use Rattle.cobs_bytes.specs.Bytes.{xor_each}
 use Rattle.cobs_bytes.proofs.lanes.xor_bytes.Given as goal

@@ -1,4 +1,5 @@
--- A vector is written to its place (`put_is`), and its lanes that are zero are the mask of its bytes (`zeros_by_lanes`).
+-- The vector is written to index `at` of `dest` (`put_is`), and the mask of its lanes that are zero is the mask of its
+-- bytes (`zeros_by_lanes`).
 use Rattle.std.proofs.Common.{arith}
 use Rattle.std.proofs.lemmas.Simd.{length-chunk}
 use Rattle.cobs_bytes.proofs.bytes.MaskLemmas.{put_is, zeros_by_lanes}

@@ -1,4 +1,4 @@
--- A vector of 32 equal bytes replaces a part of the slice, by `put_is`.
+-- A vector of 32 equal bytes replaces the 32 bytes from index `at` on, by `put_is`.
 use Rattle.std.proofs.Common.{replicate}
 use Rattle.std.proofs.lemmas.Simd.{length-replicate}
 use Rattle.cobs_bytes.proofs.bytes.MaskLemmas.{put_is}

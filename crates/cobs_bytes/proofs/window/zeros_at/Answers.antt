@@ -1,4 +1,5 @@
--- The mask of the lanes that are zero is the mask of the bytes' zeros, by `zeros_by_lanes`.
+-- The mask of the lanes that are zero is the mask of the zeros among the N bytes from index `at` on, by
+-- `zeros_by_lanes`.
 use Rattle.cobs_bytes.proofs.bytes.MaskLemmas.{zeros_by_lanes}
 use Rattle.cobs_bytes.proofs.window.zeros_at.Goals as goal
 

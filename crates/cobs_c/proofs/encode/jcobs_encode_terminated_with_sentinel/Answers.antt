@@ -1,5 +1,5 @@
--- The frame is written to the buffer without the buffer's last byte, and the sentinel is written after the frame, by
--- `Writes-terminated`.
+-- `jcobs_encode_with_sentinel` got the buffer without its last byte, so there is room for the sentinel after the frame.
+-- `Writes-terminated` shows that the frame with the sentinel meets the postcondition.
 use Rattle.std.proofs.Common.{◌≢◌, ◌-◌, ℕ, List, length, length-take-le, refl, sym, ◌∙◌, arith}
 use Rattle.std.proofs.lemmas.Bool.{eqb-false}
 use Rattle.cobs_abi.proofs.WritesLemmas.{Writes-terminated}
@@ -7,6 +7,7 @@ use Rattle.cobs_c.proofs.encode.jcobs_encode_terminated_with_sentinel.Goals as g
 
 pub returns : goal.returns
 returns c =
+    -- the buffer isn't empty, and without its last byte it has `last` bytes
     let some : length c.args.frame.now ≢ 0 = eqb-false _ 0 (sym c.is_empty.ensures ∙ c.if-is_empty.false) in
     let last : ℕ = length c.args.frame.now - 1 in
     let front = length-take-le last c.args.frame.now (omega arith) in

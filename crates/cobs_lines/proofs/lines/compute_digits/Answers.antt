@@ -7,7 +7,9 @@ use Rattle.cobs_lines.proofs.lines.compute_digits.Goals as goal
 
 pub by_byte-preserved : goal.by_byte-preserved
 by_byte-preserved c = record {
+  -- each of the two writes keeps the length of the room
   len = length-set _ _ _ ∙ length-set _ _ _ ∙ c.by_byte.invariant.len;
+  -- with the two digits, the room has the digits of the first i + 1 bytes
   filled = encode_step lower_digits c.args.bytes.now c.by_byte.room c.by_byte.i _ _ (omega arith) (omega arith) c.digit.ensures.digit c.digit-in-by_byte.ensures.digit c.by_byte.invariant.filled;
 }
 

@@ -1,4 +1,5 @@
--- The digits of the first `at` bytes are written (`Appends`), and the array `digits` has room for 512 digits.
+-- The digits of the first `at` bytes have been appended to the output (`written`), and the array `digits` has room for
+-- 512 digits. The loop ends, because each iteration writes the digits of at least one byte.
 use Rattle.std.proofs.Common.{◌≡◌, ◌≤◌, ◌-◌, length, take}
 use Rattle.std.specs.Io.KnownBytes.{Appends}
 use Rattle.hex.specs.Hex.{encode_lower}

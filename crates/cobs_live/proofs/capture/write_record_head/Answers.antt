@@ -1,5 +1,5 @@
--- The four words are written one after another: three by `Appends-trans`, and the last one, whose write may fail, by
--- `behind`.
+-- The four words of a record's header are written one after another: the first three by `Appends-trans`, and the last
+-- one, whose write may fail, by `behind`.
 use Rattle.std.proofs.KnownBytes.{Appends-trans}
 use Rattle.cobs_live.proofs.AppendLemmas.{behind}
 use Rattle.cobs_live.proofs.capture.write_record_head.Goals as goal

@@ -1,4 +1,5 @@
--- Each iteration of the loop changes one more byte, by `map_over_more`. `now` is the bytes at the start of the
+-- Each iteration of the loop changes one more byte to a character, so the invariant holds for an index that is one
+-- greater. This is `map_over_more` of std, for the function `character`. `now` is the bytes at the start of the
 -- iteration, and i is the index.
 use Rattle.std.proofs.Common.{ℕ, ◌<◌, List, length, get_or, arith}
 use Rattle.std.proofs.lemmas.List.{get_or_default}

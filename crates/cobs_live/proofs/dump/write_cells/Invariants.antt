@@ -1,4 +1,4 @@
--- The cells of i bytes are written (`upto`), from the byte at index `from` on.
+-- The cells for the numbers `from` to from + i - 1 of the row are written (`upto`).
 use Rattle.std.proofs.Common.{◌+◌}
 use Rattle.std.specs.Io.KnownBytes.{Appends}
 use Rattle.cobs_live.specs.Dump.{cell, upto}

@@ -1,5 +1,5 @@
--- Before the loop no row is written (`upto-none`), and each iteration writes one more (`upto-more`). The bytes of the
--- iteration are those of the numbered row (`row_of`).
+-- Before the loop no row is written (`upto-none`), and each iteration writes one row more (`upto-more`). The bytes of
+-- the row are those that `numbered_row` states (`row_of`).
 use Rattle.std.proofs.Common.{◌*◌}
 use Rattle.std.proofs.KnownBytes.{Appends-nil, Appends-trans}
 use Rattle.cobs_live.proofs.DumpLemmas.{row_of, upto-more, upto-none}

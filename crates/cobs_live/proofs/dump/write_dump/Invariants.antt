@@ -1,4 +1,4 @@
--- The rows with a number below `row` are written (`upto`).
+-- The rows with a number below `row` are written, one after another (`upto`).
 use Rattle.std.specs.Io.KnownBytes.{Appends}
 use Rattle.cobs_live.specs.Dump.{numbered_row, upto}
 use Rattle.cobs_live.proofs.dump.write_dump.Given as goal

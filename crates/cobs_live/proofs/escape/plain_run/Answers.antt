@@ -6,9 +6,11 @@ use Rattle.cobs_live.specs.Escaped.{is_plain_byte}
 use Rattle.cobs_live.proofs.EscapeLemmas.{plain_below}
 use Rattle.cobs_live.proofs.escape.plain_run.Goals as goal
 
+-- before the first byte, index 0 is the start of a character, or the end of the text
 pub loop-i-init : goal.loop-i-init
 loop-i-init c = grind (arith, IsCharBoundary-start)
 
+-- one plain byte more
 pub loop-i-preserved : goal.loop-i-preserved
 loop-i-preserved c =
     let plain : IsTrue (is_plain_byte (get_or c.args.text.now c.loop-i.i 0)) = search rules in

@@ -1,4 +1,5 @@
 -- The first `run` bytes are the same in the escaped text (`same`), and they end between two characters (`boundary`).
+-- The loop ends, because each iteration makes the run longer.
 use Rattle.std.proofs.Common.{◌≡◌, ◌-◌, ◌++◌, length, take, drop}
 use Rattle.std.specs.Str.{IsCharBoundary}
 use Rattle.cobs_live.specs.Escaped.{text_escaped}

@@ -4,9 +4,11 @@ use Rattle.std.proofs.Common.{◌≡◌, length, arith}
 use Rattle.cobs_live.proofs.EscapeLemmas.{front-end, front-more}
 use Rattle.cobs_live.proofs.escape.write_escaped.Goals as goal
 
+-- one iteration more
 pub by_run-preserved : goal.by_run-preserved
 by_run-preserved g c = grind (arith, front-more)
 
+-- after the loop
 pub returns : goal.returns
 returns g c =
     let none : length c.by_run.rest.now ≡ 0 = grind (arith, c.is_empty.ensures, c.by_run-test.false) in

@@ -8,10 +8,13 @@ use Rattle.cobs_live.specs.Escaped.{escaped}
 use Rattle.cobs_live.proofs.EscapeLemmas.{front_ended, front_escaped}
 use Rattle.cobs_live.proofs.escape.write_run.Goals as goal
 
+-- a character follows the run: the run and the escape of this character are written
 pub returns-in_ok-write_char-in-Some-clause-written : goal.returns-in_ok-write_char-in-Some-clause-written
 returns-in_ok-write_char-in-Some-clause-written g c =
     let text : List ℕ = c.args.text.now in
+    -- the number of bytes at the front of the text that need no escape
     let run : ℕ = c.visible_run-run.result in
+    -- the character c and the text after it follow the run; the bytes after the run are UTF-8 (`utf8`)
     let split : drop run text ≡ encode_utf8 c.in-Some.c ++ c.as_str.result.now = search rules in
     let utf8 = IsUtf8-drop text run c.utf8.text c.visible_run-run.ensures.boundary in
     record {
@@ -20,9 +23,11 @@ returns-in_ok-write_char-in-Some-clause-written g c =
       is = front_escaped text c.as_str.result.now run c.in-Some.c utf8 c.visible_run-run.ensures.same split;
     }
 
+-- no character follows the run: the run is written, and it is the rest of the text
 pub returns-in-None-clause-written : goal.returns-in-None-clause-written
 returns-in-None-clause-written g c =
     let text : List ℕ = c.args.text.now in
+    -- the number of bytes at the front of the text that need no escape
     let run : ℕ = c.visible_run-run.result in
     let none : length (drop run text) ≡ 0 = search rules in
     record {

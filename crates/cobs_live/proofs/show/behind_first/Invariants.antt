@@ -1,5 +1,6 @@
--- The bytes from index i on and all bytes agree in two points: which bytes follow the first zero (`begun`), and
--- whether bytes are still skipped after them (`skips_on`). So no byte before index i is a zero.
+-- No byte before index i is a zero. So for the bytes from index i on and for all bytes, the same bytes follow the first
+-- zero (`begun`), and bytes are still skipped afterwards or not in the same way (`skips`). Bytes were skipped before
+-- the call (`awaited`).
 use Rattle.std.proofs.Common.{◌≡◌, true, drop}
 use Rattle.cobs_live.specs.Watched.{begun, skips_on}
 use Rattle.cobs_live.proofs.show.behind_first.Given as goal

@@ -5,25 +5,27 @@ use Rattle.std.proofs.KnownBytes.{Consumes-nil}
 use Rattle.cobs_live.proofs.RunLemmas.{HasShownSoFar-live, shown-ended, shown-fault, unfinished-fault}
 use Rattle.cobs_live.proofs.show.run_show.Goals as goal
 
--- before the first read
+-- before the first read, the new watch has shown nothing, and the run is live
 pub by_read-init : goal.by_read-init
 by_read-init g c = record { live = HasShownSoFar-live _ _ _ (c.in_ok-watch.ensures.start (Some []) _); flushed = c.requires.flushed; chunk = c.in_ok-chunk.ensures.len }
 
--- `show_next` returned a fault
+-- `show_next` returned a fault, and the text is that of this fault
 pub returns-in_err-next-clause-shown : goal.returns-in_err-next-clause-shown
 returns-in_err-next-clause-shown g c = shown-fault _ _ _ _ _ _ c.in_err-next.field-0.0 (search rules) (c.in_err-next.ensures.shown _ _ _ c.by_read.invariant.live.so_far)
 
+-- `show_next` returned a fault, and the run was live at each read
 pub returns-in_err-next-clause-live : goal.returns-in_err-next-clause-live
 returns-in_err-next-clause-live g c = c.in_err-next.ensures.live _ _ _ _ c.by_read.invariant.live
 
--- the input has ended
+-- the input has ended, and everything was shown
 pub returns-then-not-branch-clause-shown : goal.returns-then-not-branch-clause-shown
 returns-then-not-branch-clause-shown g c = rw c.if-not-branch.true at (c.in_ok-next.ensures.shown _ _ _ c.by_read.invariant.live.so_far)
 
+-- the input has ended, and the run was live at each read
 pub returns-then-not-branch-clause-live : goal.returns-then-not-branch-clause-live
 returns-then-not-branch-clause-live g c = c.in_ok-next.ensures.live _ _ _ _ c.by_read.invariant.live
 
--- the run goes on
+-- `show_next` showed the bytes of one read, and the run goes on
 pub by_read-preserved : goal.by_read-preserved
 by_read-preserved g c = record {
   live = c.in_ok-next.ensures.goes_on c.if-not-branch.false _ _ _ _ c.by_read.invariant.live;
@@ -35,6 +37,6 @@ by_read-preserved g c = record {
 pub returns-in_err-end-clause-shown : goal.returns-in_err-end-clause-shown
 returns-in_err-end-clause-shown g c = unfinished-fault _ _ _ _ _ _ c.in_err-end.field-0.0 (search rules) c.in_err-end.ensures.fault
 
--- the greatest number of reads was made
+-- the greatest number of reads was made, and the text of the ended input was written
 pub returns-clause-shown : goal.returns-clause-shown
 returns-clause-shown g c = shown-ended (assumption c.law_9.ensures) c.by_read.invariant.live.so_far (Consumes-nil _) c.in_ok-end.ensures.shown

@@ -1,5 +1,6 @@
--- The first `at` bytes are shown (`ShowsBytes`), for each piece that may have been open before the call, and for each
--- number of earlier outcomes and bytes.
+-- The pieces that end in the first `at` bytes are shown (`ShowsBytes`), in the output with the composed text. This
+-- holds for each front p of a piece that may have been fed before the call, and for each number of earlier outcomes and
+-- bytes. The loop ends, because each iteration takes at least one byte.
 use Rattle.std.proofs.Common.{◌≡◌, ◌≤◌, ◌-◌, ℕ, List, length, take}
 use Rattle.cobs.specs.Feed.{DecoderAfter}
 use Rattle.cobs.specs.Fields.Decoders.{phase_of}

@@ -1,5 +1,5 @@
--- A checksum has as many bytes as its parameters say (`length-sum`). So a message with its checksum is split at the
--- index at which the two were joined (`body-back`), and the checksum is right (`checked-back`).
+-- A checksum has as many bytes as its parameters say (`length-sum`). So if the checksum of a message is appended to the
+-- message, the bytes before the checksum are the message (`body-back`), and the checksum is right (`checked-back`).
 use Rattle.std.proofs.Common.{◌≡◌, ℕ, Bool, true, false, List, ◌++◌, length, reverse, refl, sym, ap, arith, length-append, length-take-le, Some}
 use Rattle.std.proofs.lemmas.List.{length-reverse, take_all, take-append-le}
 use Rattle.std.proofs.lemmas.Bool.Decides.{Decides-eqb}
@@ -18,11 +18,11 @@ ordered false bytes = length-reverse bytes
 length-sum : (c : Checksum) (message : List ℕ) → length (sum_of c message) ≡ c.params.size
 length-sum c message = grind (arith, ordered, length-take-le)
 
--- the bytes before the checksum are the message
+-- the bytes of a message with its checksum, without as many bytes at the end, are the message
 body-back : (c : Checksum) (message : List ℕ) → body_of c (with_sum (Some c) message) ≡ message
 body-back c message = grind (arith, length-append, length-sum, take-append-le, take_all)
 
--- the checksum is right
+-- a message with its checksum ends with the checksum of the bytes before it
 checked-back : (c : Checksum) (message : List ℕ) → is_checked c (with_sum (Some c) message) ≡ true
 checked-back c message =
     (ends_is Decides-eqb (message ++ sum_of c message) (sum_of c (body_of c (message ++ sum_of c message))) _ refl).1 message

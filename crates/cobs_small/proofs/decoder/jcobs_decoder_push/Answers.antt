@@ -1,4 +1,5 @@
--- `decode_each` is called with the sentinel 0, and XOR with 0 changes no byte (`xor_each-zero`).
+-- `jcobs_decoder_push` calls `decode_each` with the sentinel 0. The clause of `decode_each` is about the bytes XORed
+-- with 0, which are the bytes themselves (`xor_each-zero`).
 use Rattle.cobs_abi.proofs.FinishLemmas.{xor_each-zero}
 use Rattle.cobs_small.proofs.decoder.jcobs_decoder_push.Goals as goal
 

@@ -1,4 +1,5 @@
--- The line of an empty message is the text that is pushed (`outcome_line-empty`, `pushed_line`).
+-- If the message is empty, the pushed text is the fixed line of the empty message (`outcome_line-empty`,
+-- `pushed_line`). The tactics prove the other case.
 use Rattle.std.proofs.Common.{sym, ◌∙◌}
 use Rattle.std.proofs.lemmas.Bool.{eqb-true}
 use Rattle.cobs_tool.proofs.ReportLemmas.{outcome_line-empty, pushed_line}

@@ -8,6 +8,7 @@ use Rattle.cobs_vectors.proofs.callers.decode_known_short.Goals as goal
 pub returns : goal.returns
 returns c =
     let frame : List ℕ = c.args.frame.now in
+    -- all bytes of the frame, which have no zero, are the head of the frame
     let all = take_all (length frame) frame (omega arith) in
     let is : frame ≡ head frame = sym all ∙ c.law_12.ensures.head frame (length frame) (omega arith) (rw all c.requires.nonzero) (λ more. absurd (omega arith)) in
     let long = ap length is in

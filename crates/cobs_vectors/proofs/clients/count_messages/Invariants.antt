@@ -1,5 +1,6 @@
--- The messages among the outcomes of the first `at` bytes are counted, and the decoder has taken these bytes. Each
--- message needs at least one byte (`few`), so the count doesn't overflow.
+-- The messages among the outcomes of the first `at` bytes are counted (`counted`), and the decoder has taken these
+-- bytes (`after`). p is the front of a piece that had been fed before the call. Each message needs at least one byte
+-- (`few`), so the count doesn't overflow. The loop ends, because each push consumes at least one byte.
 use Rattle.std.proofs.Common.{◌≡◌, ◌≤◌, ◌-◌, ◌++◌, ℕ, List, length, take}
 use Rattle.cobs.specs.Feed.{DecoderAfter}
 use Rattle.cobs.specs.Fields.Decoders.{owned_buffer, owned_phase}

@@ -15,18 +15,22 @@ reported c m =
       λ r. c.push.ensures.reads c.args.piece.now m idle c.requires.ended r.0 r.1,
     )
 
+-- the push returned a report
 pub returns-in-Ok-Some : goal.returns-in-Ok-Some
 returns-in-Ok-Some c = λ m.
+    -- the decoder has the caller's slice `dest` at the start and after the push, and `r` is `reported` for this push
     let made = c.new-decoder.ensures.same_slice in
     let pushed = c.push.ensures.same_slice in
     let start = c.new-decoder.ensures.buffer in
     let r = rw (c.in-Ok-Some.is, c.in-Ok-Some.field-0-is, start) at (reported (goal.at.returns-in-Ok-Some c).After-push m) in
     rw c.frame_size.ensures.size (subst (λ (l : List ℕ). BeginsWith l c.in-Ok-Some.report.frame_size m ↔ (Reads c.args.piece.now m × (length m ≤ length c.args.dest.now))) (grind arith) r)
 
+-- the push returned `Ok(None)`, so the piece reads as no message that fits the buffer
 pub returns-in-Ok-None : goal.returns-in-Ok-None
 returns-in-Ok-None c = λ m.
     rw (c.in-Ok-None.is, c.in-Ok-None.field-0-is, c.new-decoder.ensures.buffer) at (reported (goal.at.returns-in-Ok-None c).After-push m)
 
+-- the push returned an error, so the piece reads as no message that fits the buffer
 pub returns-in-Err : goal.returns-in-Err
 returns-in-Err c = λ m.
     rw (c.in-Err.is, c.new-decoder.ensures.buffer) at (reported (goal.at.returns-in-Err c).After-push m)

@@ -1,4 +1,4 @@
--- At most all bytes are taken. The loop ends, because each piece takes at least one byte.
+-- The index `at` is at most the number of bytes. The loop ends, because each piece takes at least one byte.
 use Rattle.std.proofs.Common.{◌≤◌, ◌-◌, length}
 use Rattle.cobs_vectors.proofs.clients.longest.Given as goal
 

@@ -1,4 +1,5 @@
--- The frame reads as the message m, so `decode` returned the length of m (`reads`): the comparison can't fail.
+-- The frame reads as the message m, so `decode` returned the length of m (`reads`). So the case that the lengths
+-- differ, for which the function returns false, is impossible.
 use Rattle.std.proofs.Common.{ℕ, List, ◌∙◌}
 use Rattle.cobs_vectors.proofs.clients.there_and_back.Goals as goal
 

@@ -1,5 +1,5 @@
--- If the byte is skipped, it is a zero, and the decoder is idle. By `step` of `law_17`, such a zero returns `Ok(None)`
--- and changes nothing.
+-- A byte is skipped only if it is a zero and the decoder is idle. By `step` of `law_17`, feeding such a zero returns
+-- `Ok(None)` and changes nothing, so the skipped byte meets `Feeds`.
 -- `law_17`: A decoder of your own, byte by byte.
 use Rattle.std.proofs.Common.{None, Ok, subst, sym}
 use Rattle.cobs.specs.Feed.{Feeds, Idle, Phase}

@@ -1,4 +1,5 @@
--- The byte is one step of the machine of `Step`, and `law_17: byte` says what this step means.
+-- `take_byte` makes one step of the machine of `Step`, and `byte` of `law_17` says that this step meets `TakesPiece`
+-- for a single byte that ends no piece.
 -- `law_17`: A decoder of your own, byte by byte.
 use Rattle.std.proofs.Common.{[], ◌∷◌, arith}
 use Rattle.cobs.specs.Fields.Decoders.{phase_of}
@@ -6,6 +7,7 @@ use Rattle.cobs_vectors.proofs.own_coders.take_and_compare.Goals as goal
 
 pub returns-clause-takes : goal.returns-clause-takes
 returns-clause-takes c =
+    -- `e` has the clauses of `take_byte`, and `feeds` says that the step for this byte meets `Feeds`
     let law = c.law_17.ensures in
     let e = c.take_byte-count.ensures in
     let feeds = law.step c.args.buffer.now (phase_of c.args.decoder.now) c.args.byte in

@@ -1,5 +1,6 @@
--- After each byte the vector has the open output, by `push: carried`, and each result names an index within the vector
--- (`within`).
+-- After each byte the vector has the open output of the bytes so far, by the clause `carried` of `push`
+-- (`by_byte-preserved`). Each result of `push` names an index, which is within the vector (`within`). At the end,
+-- `finalize` names the index of the last code.
 use Rattle.std.proofs.Common.{◌≡◌, ◌<◌, ◌≤◌, ◌==◌, ℕ, Bool, true, false, List, [], ◌∷◌, ◌++◌, if◌then◌else◌, length, take, get_or, set, sym, ap, subst, arith, take_all, append_assoc}
 use Rattle.std.proofs.lemmas.List.{take_more}
 use Rattle.cobs.specs.declared.PushResult.{PushResult}
@@ -14,45 +15,54 @@ index_of (AddSingle b) = 0
 index_of (ModifyFromStartAndSkip (i, c)) = i
 index_of (ModifyFromStartAndPushAndSkip (i, c, b)) = i
 
--- this index isn't after the open block's
+-- this index isn't after the index of the open block
 index_of-push_result : (state : OpenBlock) (byte : ℕ) → index_of (push_result state byte) ≤ state.index
 index_of-push_result state byte = go (byte == 0) (state.code == 254)
   where
+    -- the three results of `push_result`, for whether the byte is a zero, and whether the open block is full
     go : (zero full : Bool) → index_of (if zero then ModifyFromStartAndSkip (state.index, state.code) else (if full then ModifyFromStartAndPushAndSkip (state.index, 255, byte) else AddSingle byte)) ≤ state.index
     go true full = omega arith
     go false true = omega arith
     go false false = omega arith
 
--- so it is within the output
+-- if the open block begins within the output g, the index that a result names is within g
 within : (g : List ℕ) (state : OpenBlock) (byte : ℕ) (returned : PushResult) → state.index < length g → returned ≡ push_result state byte → index_of returned < length g
 within g state byte returned end is = grind (arith, index_of-push_result)
 
+-- before the first byte, the vector has the output for no byte
 pub by_byte-init : goal.by_byte-init
 by_byte-init c = subst (λ (g : List ℕ). IsOpenOutput g c.default-state.result []) (sym c.in_ok-output.ensures.items) (c.default-state.ensures.output 0)
 
+-- the open block begins within the vector, so its index and code don't overflow, as `push` requires
 pub push-requires : goal.push-requires
 push-requires c = let len = (c.law_13.ensures.output c.by_byte.output.items (take c.by_byte.byte-index c.args.source.now) c.by_byte.state c.by_byte.invariant).0 in omega arith
 
+-- the index for a closed block is within the vector
 pub index_mut-requires : goal.index_mut-requires
 index_mut-requires c =
     let h = within c.by_byte.output.items c.by_byte.state (get_or c.args.source.now c.by_byte.byte-index 0) c.push.result (c.law_13.ensures.output c.by_byte.output.items (take c.by_byte.byte-index c.args.source.now) c.by_byte.state c.by_byte.invariant).1 c.push.ensures.answer in
     let i = ap index_of c.in-ModifyFromStartAndSkip.is in
     omega arith
 
+-- the index for a full block is within the vector
 pub index_mut-requires-in-ModifyFromStartAndPushAndSkip : goal.index_mut-requires-in-ModifyFromStartAndPushAndSkip
 index_mut-requires-in-ModifyFromStartAndPushAndSkip c =
     let h = within c.by_byte.output.items c.by_byte.state (get_or c.args.source.now c.by_byte.byte-index 0) c.push.result (c.law_13.ensures.output c.by_byte.output.items (take c.by_byte.byte-index c.args.source.now) c.by_byte.state c.by_byte.invariant).1 c.push.ensures.answer in
     let i = ap index_of c.in-ModifyFromStartAndPushAndSkip.is in
     omega arith
 
+-- one more byte: the caller has made the change that the result describes
 pub by_byte-preserved : goal.by_byte-preserved
 by_byte-preserved c =
     let source : List ℕ = c.args.source.now in
     let i : ℕ = c.by_byte.byte-index in
     let g : List ℕ = c.by_byte.output.items in
+    -- the output after the change is the open output for one byte more
     let carried = c.push.ensures.carried (take i source) g 0 c.by_byte.invariant in
     let more = take_more source i 0 (omega arith) in
+    -- the change for the result is the change for any equal result
     let carry : (returned : PushResult) → c.push.result ≡ returned → applied g c.push.result 0 ≡ applied g returned 0 = λ returned is. ap (λ (r : PushResult). applied g r 0) is in
+    -- the vector is the output after this change, for each of the three results
     let same : c.match-push.output.items ≡ applied g c.push.result 0 = elim c.match-push.branch [
       | in-AddSingle+in_ok-push-in-AddSingle w ↦
           let is = carry _ w.in-AddSingle.is in
@@ -74,12 +84,14 @@ by_byte-preserved c =
     ] in
     subst (λ (l : List ℕ). IsOpenOutput c.match-push.output.items c.push.new.self l) (sym more) (subst (λ (l : List ℕ). IsOpenOutput l c.push.new.self (take i source ++ get_or source i 0 ∷ [])) (sym same) carried)
 
+-- at the end, the index of the last code is within the vector
 pub index_mut-requires-2 : goal.index_mut-requires-2
 index_mut-requires-2 c =
     let end = (c.law_13.ensures.output c.by_byte.output.items (take c.by_byte.byte-index c.args.source.now) c.by_byte.state c.by_byte.invariant).1 in
     let i = c.finalize-index.ensures.index in
     omega arith
 
+-- the vector is the output of all bytes, with the last code written
 pub returns : goal.returns
 returns c =
     let i = c.finalize-index.result.0 in

@@ -5,5 +5,6 @@ use Rattle.cobs_lines.proofs.memory.InMemoryFrameSource.read_some.Goals as goal
 
 pub returns-clause-step : goal.returns-clause-step
 returns-clause-step c =
+    -- the clauses of the read: how many bytes it copied, where they are now, and which bytes are left
     let read = c.read.ensures in
     rw c.ok.ensures.value (TakesChunk-read _ _ _ _ _ c.told-chunk read.count read.copied read.rest)

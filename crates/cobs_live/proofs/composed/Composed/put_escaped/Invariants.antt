@@ -1,4 +1,5 @@
--- The part of the text before `rest` is written, escaped (`WritesFront`). `rest` is still UTF-8.
+-- A front of the text is written, escaped, and `rest` is left (`WritesFront`). `rest` is UTF-8. The loop ends, because
+-- each iteration shortens `rest`.
 use Rattle.std.proofs.Common.{length}
 use denote.Shadow.{shadow}
 use denote.Text.{Utf8}

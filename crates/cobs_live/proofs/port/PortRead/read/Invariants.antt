@@ -1,4 +1,5 @@
--- Each earlier try would have blocked, so it has read nothing (`Keeps`).
+-- Each earlier try would have blocked, so the tries have read nothing: the reader's bytes are as they were before the
+-- call (`Keeps`).
 use Rattle.std.specs.Io.KnownBytes.{Keeps}
 use Rattle.cobs_live.proofs.port.PortRead.read.Given as goal
 

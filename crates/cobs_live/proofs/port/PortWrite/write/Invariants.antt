@@ -1,4 +1,5 @@
--- Each earlier try would have blocked, so it has written nothing (`Keeps`).
+-- Each earlier try would have blocked, so the tries have written nothing: the writer's contents are as they were before
+-- the call (`Keeps`).
 use Rattle.std.specs.Io.KnownBytes.{Keeps}
 use Rattle.cobs_live.proofs.port.PortWrite.write.Given as goal
 
