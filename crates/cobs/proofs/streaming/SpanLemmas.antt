@@ -17,7 +17,7 @@ use Rattle.cobs.specs.Internal.Walk.{walked}
 use Rattle.cobs.specs.Sentinel.{xor_each}
 use Rattle.cobs.specs.Step.{next_phase, next_buffer}
 use Rattle.cobs.proofs.streaming.RunLemmas.{over, phase_with-begun}
-use Rattle.cobs.proofs.streaming.WalkLemmas.{fed_walked, length-walked, walked-past, walked-any, IsWalked}
+use Rattle.cobs.proofs.streaming.WalkLemmas.{walked-append, fed_walked, length-walked, walked-past, walked-any, IsWalked}
 use Rattle.cobs_bytes.proofs.bytes.ListLemmas.{ones-nonzero}
 
 -- if the bytes xs are fed quietly, and then the bytes ys, then xs ++ ys are fed quietly
@@ -127,6 +127,13 @@ block_fed inner (suc run) dest bytes new going most room within nz is =
 row_ones : (n : ℕ) → walked 1 0 (replicate n 1) ≡ (replicate n 0, 1, 0)
 row_ones zero = refl
 row_ones (suc n) = grind (arith, row_ones n)
+
+-- `walked` of bytes that begin with n codes 1, after a block 1: each of these codes becomes a zero
+pub row_walked : (n : ℕ) (bytes : List ℕ) → take n bytes ≡ replicate n 1
+    → walked 1 0 bytes ≡ let w = walked 1 0 (drop n bytes) in (replicate n 0 ++ w.0, w.1, w.2)
+row_walked n bytes ones =
+    let front = walked-append 1 0 (take n bytes) (drop n bytes) in
+    grind (arith, row_ones, take-append-drop)
 
 -- If the next n bytes are codes 1, and the block before them is whole and not full, n zeros are written after the
 -- output. This has the effect of feeding the codes.

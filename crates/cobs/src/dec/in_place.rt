@@ -13,8 +13,7 @@ ghost use Rattle.cobs.specs.declared.error.DecodeError.TheVariants.{TargetBufToo
 
 use crate::block::FULL_BLOCK_BYTES;
 use crate::dec::each::decode_in_place_each;
-use crate::dec::run::SPAN_MAX;
-use crate::dec::span::{kept_len, message_len, write_zeros_at_codes};
+use crate::dec::span::{SPAN_MAX, kept_len, message_len, write_zeros_at_codes};
 use crate::dec::unbuffered::{START, UnbufferedDecoder};
 use crate::error::{DecodeError, DecodeReport};
 use crate::find::{len_without_end, zero_or_len};

@@ -3,7 +3,7 @@
 //! span are copied, even the codes, and then a zero is written over each code.
 //!
 //! Each step requires that the output so far fits the buffer, and ensures that it still does (the clauses `going`).
-ghost use Rattle.std.specs.Prelude.{IsTrue, ◌++◌, drop, ◌≡◌, ◌≢◌, ◌<◌, ◌≤◌, ◌+◌, ◌-◌, ◌∷◌, [], length, take, replicate, slice_index, false, List, ℕ};
+ghost use Rattle.std.specs.Prelude.{IsTrue, ◌++◌, drop, ◌≡◌, ◌≢◌, ◌<◌, ◌≤◌, ◌+◌, ◌-◌, ◌∷◌, [], length, take, slice_index, false, List, ℕ};
 ghost use Rattle.cobs.specs.Feed.{Idle, Overlong};
 ghost use Rattle.cobs.specs.Fields.Decoders.{phase_of};
 ghost use Rattle.cobs.specs.Grammar.{HasNoZero};
@@ -11,39 +11,14 @@ ghost use Rattle.cobs.specs.Internal.FeedsQuietly.{FeedsQuietly};
 ghost use Rattle.cobs.specs.Sentinel.{xor_each};
 ghost use Rattle.cobs.specs.Step.{next_phase};
 
-use crate::block::FULL_BLOCK_BYTES;
-use crate::dec::span::{write_zeros_at_codes, write_zeros_at_copied};
+use crate::dec::span::{
+    SPAN_MAX, write_rows, write_zeros_at_codes, write_zeros_at_copied, write_zeros_by_rows,
+};
 use crate::dec::step::joint_after;
 use crate::dec::unbuffered::UnbufferedDecoder;
 use crate::find::zero_or_len;
 use cobs_bytes::lanes::{copy_xored, copy_xored_short};
-use cobs_bytes::window::{WIDE_WINDOW, WINDOW, copy_window, has_vectors, is_all, write_row};
-
-/// The greatest number of bytes in a span. A full block is longer than a span. So if a full block begins in a span, the
-/// next block's code isn't in that span.
-pub(crate) const SPAN_MAX: usize = FULL_BLOCK_BYTES - 1;
-
-/// Decodes up to seven rows of 32 codes 01 from the front of `bytes`, and returns the number of these codes. `byte` is
-/// the code 01, XORed with the sentinel. For each code the function writes a zero to `dest`, from index `at` on. It
-/// stops before a row that contains another byte, and before a row for which `dest` has no room. The limit is seven
-/// rows, because eight rows would be longer than a span.
-#[inline(always)]
-fn write_rows(dest: &mut [u8], at: usize, bytes: &[u8], byte: u8) -> usize
-    ensures within { result ≤ length bytes.now }
-    ensures few { result < 254 }
-    ensures room { 0 < result → at + result ≤ length dest.old }
-    ensures rows { take result bytes.now ≡ replicate result byte }
-    ensures written { dest.new ≡ take at dest.old ++ (replicate result 0 ++ drop (at + result) dest.old) }
-    ensures kept { result ≡ 0 → dest.new ≡ dest.old }
-{
-    let most = bytes.len().min(dest.len().saturating_sub(at)).min(SPAN_MAX);
-    let mut len = 0;
-    'by_row: while WINDOW <= most - len && is_all(bytes, len, byte) {
-        write_row(dest, at + len, 0);
-        len += WINDOW;
-    }
-    len
-}
+use cobs_bytes::window::{WIDE_WINDOW, WINDOW, copy_window, has_vectors};
 
 impl UnbufferedDecoder {
     /// Decodes the code of a new block. The caller ensures that the preceding block, if there is one, is whole. If the
@@ -251,12 +226,7 @@ impl UnbufferedDecoder {
 
     /// Decodes `bytes`, the first bytes of a piece, and returns true, or decodes nothing and returns false. The caller
     /// ensures that `bytes` has at most 65 bytes, and that none of them is a zero. The function decodes the bytes only
-    /// if all these conditions hold:
-    ///
-    /// - There are at least 2 bytes.
-    /// - `dest` has room for the output of the bytes.
-    /// - The first 32 bytes aren't all codes 01. Rows of codes 01 are decoded faster by [`take_run`](Self::take_run),
-    ///   which decodes 32 of these codes in one step.
+    /// if there are at least 2 bytes, and if `dest` has room for their output.
     #[inline(always)]
     pub(crate) fn take_front(&mut self, dest: &mut [u8], bytes: &[u8]) -> bool
         requires idle { phase_of self.old ≡ Idle }
@@ -267,15 +237,12 @@ impl UnbufferedDecoder {
         ensures kept { result ≡ false → (dest.new ≡ dest.old) × (self.new ≡ self.old) }
     {
         let len = bytes.len();
-        if len < 2
-            || dest.len() < len - 1
-            || (WINDOW <= len && bytes[0] == 1 && is_all(bytes, 0, 1))
-        {
+        if len < 2 || dest.len() < len - 1 {
             return false;
         }
         let _zeros = copy_window(&bytes[1..], dest, 0);
         let first = bytes[0] as usize;
-        let (code, missing) = write_zeros_at_copied(&mut dest[..len - 1], &bytes[1..], first, 0);
+        let (code, missing) = write_zeros_by_rows(&mut dest[..len - 1], &bytes[1..], first, 0);
         *self = UnbufferedDecoder {
             written: len - 1,
             missing,

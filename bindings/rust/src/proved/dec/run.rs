@@ -5,34 +5,14 @@
 //!
 //! Each step requires that the output so far fits the buffer, and ensures that it still does (the clauses `going`).
 
-use crate::proved::block::FULL_BLOCK_BYTES;
 use crate::proved::cobs_bytes::lanes::{copy_xored, copy_xored_short};
-use crate::proved::cobs_bytes::window::{
-    WIDE_WINDOW, WINDOW, copy_window, has_vectors, is_all, write_row,
+use crate::proved::cobs_bytes::window::{WIDE_WINDOW, WINDOW, copy_window, has_vectors};
+use crate::proved::dec::span::{
+    SPAN_MAX, write_rows, write_zeros_at_codes, write_zeros_at_copied, write_zeros_by_rows,
 };
-use crate::proved::dec::span::{write_zeros_at_codes, write_zeros_at_copied};
 use crate::proved::dec::step::joint_after;
 use crate::proved::dec::unbuffered::UnbufferedDecoder;
 use crate::proved::find::zero_or_len;
-
-/// The greatest number of bytes in a span. A full block is longer than a span. So if a full block begins in a span, the
-/// next block's code isn't in that span.
-pub(crate) const SPAN_MAX: usize = FULL_BLOCK_BYTES - 1;
-
-/// Decodes up to seven rows of 32 codes 01 from the front of `bytes`, and returns the number of these codes. `byte` is
-/// the code 01, XORed with the sentinel. For each code the function writes a zero to `dest`, from index `at` on. It
-/// stops before a row that contains another byte, and before a row for which `dest` has no room. The limit is seven
-/// rows, because eight rows would be longer than a span.
-#[inline(always)]
-fn write_rows(dest: &mut [u8], at: usize, bytes: &[u8], byte: u8) -> usize {
-    let most = bytes.len().min(dest.len().saturating_sub(at)).min(SPAN_MAX);
-    let mut len = 0;
-    while WINDOW <= most - len && is_all(bytes, len, byte) {
-        write_row(dest, at + len, 0);
-        len += WINDOW;
-    }
-    len
-}
 
 impl UnbufferedDecoder {
     /// Decodes the code of a new block. The caller ensures that the preceding block, if there is one, is whole. If the
@@ -175,24 +155,16 @@ impl UnbufferedDecoder {
 
     /// Decodes `bytes`, the first bytes of a piece, and returns true, or decodes nothing and returns false. The caller
     /// ensures that `bytes` has at most 65 bytes, and that none of them is a zero. The function decodes the bytes only
-    /// if all these conditions hold:
-    ///
-    /// - There are at least 2 bytes.
-    /// - `dest` has room for the output of the bytes.
-    /// - The first 32 bytes aren't all codes 01. Rows of codes 01 are decoded faster by [`take_run`](Self::take_run),
-    ///   which decodes 32 of these codes in one step.
+    /// if there are at least 2 bytes, and if `dest` has room for their output.
     #[inline(always)]
     pub(crate) fn take_front(&mut self, dest: &mut [u8], bytes: &[u8]) -> bool {
         let len = bytes.len();
-        if len < 2
-            || dest.len() < len - 1
-            || (WINDOW <= len && bytes[0] == 1 && is_all(bytes, 0, 1))
-        {
+        if len < 2 || dest.len() < len - 1 {
             return false;
         }
         let _zeros = copy_window(&bytes[1..], dest, 0);
         let first = bytes[0] as usize;
-        let (code, missing) = write_zeros_at_copied(&mut dest[..len - 1], &bytes[1..], first, 0);
+        let (code, missing) = write_zeros_by_rows(&mut dest[..len - 1], &bytes[1..], first, 0);
         *self = UnbufferedDecoder {
             written: len - 1,
             missing,

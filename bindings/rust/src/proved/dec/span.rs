@@ -2,9 +2,14 @@
 //! Functions that go from each code of a piece to the next code: in bytes that were copied, and in the last bytes of a
 //! piece.
 
+use crate::proved::block::FULL_BLOCK_BYTES;
 use crate::proved::cobs_bytes::lanes::copy_xored_short;
-use crate::proved::cobs_bytes::window::{WIDE_WINDOW, WINDOW, is_all};
+use crate::proved::cobs_bytes::window::{WIDE_WINDOW, WINDOW, is_all, write_row};
 use crate::proved::error::DecodeError;
+
+/// The greatest number of bytes in a span. A full block is longer than a span. So if a full block begins in a span, the
+/// next block's code isn't in that span.
+pub(crate) const SPAN_MAX: usize = FULL_BLOCK_BYTES - 1;
 
 /// Writes a zero over each code in `dest`. `dest` contains the bytes of a piece that follow the code `first`. The
 /// caller ensures that no code in `dest` follows a full block, since the output has no zero after a full block. Returns
@@ -46,6 +51,41 @@ pub(crate) fn write_zeros_at_copied(
     )
 }
 
+/// Decodes up to seven rows of 32 codes 01 from the front of `bytes`, and returns the number of these codes. `byte` is
+/// the code 01, XORed with the sentinel. For each code the function writes a zero to `dest`, from index `at` on. It
+/// stops before a row that contains another byte, and before a row for which `dest` has no room. The limit is seven
+/// rows, because eight rows would be longer than a span.
+#[inline(always)]
+pub(crate) fn write_rows(dest: &mut [u8], at: usize, bytes: &[u8], byte: u8) -> usize {
+    let most = bytes.len().min(dest.len().saturating_sub(at)).min(SPAN_MAX);
+    let mut len = 0;
+    while WINDOW <= most - len && is_all(bytes, len, byte) {
+        write_row(dest, at + len, 0);
+        len += WINDOW;
+    }
+    len
+}
+
+/// Writes a zero over each code in `dest`, as [`write_zeros_at_copied`] does. If `dest` begins with rows of 32 codes 01,
+/// each row is replaced in one step.
+// It would be slower to go from code to code, because each load would wait for the preceding load. Rows are looked for
+// only at the front of `dest`: a test after each code would take longer than the code.
+#[inline(always)]
+pub(crate) fn write_zeros_by_rows(
+    dest: &mut [u8],
+    copied: &[u8],
+    first: usize,
+    sentinel: u8,
+) -> (u8, u8) {
+    if WINDOW <= copied.len() && first == 1 {
+        let taken = write_rows(dest, 0, copied, 1 ^ sentinel);
+        if taken != 0 {
+            return write_zeros_at_copied(&mut dest[taken..], &copied[taken..], 1, sentinel);
+        }
+    }
+    write_zeros_at_copied(dest, copied, first, sentinel)
+}
+
 /// Decodes a source of 2 to 65 bytes for `sentinel`, and returns how many bytes of its last block are missing. The
 /// output has one byte fewer than the source, and the bytes of `dest` after the output are unchanged. Returns `None`
 /// and changes nothing if the source has fewer than 2 or more than 65 bytes, if one of its bytes is the sentinel, or if
@@ -60,7 +100,7 @@ pub(crate) fn decode_span(source: &[u8], dest: &mut [u8], sentinel: u8) -> Optio
         return None;
     }
     let first = (source[0] ^ sentinel) as usize;
-    let (_, left) = write_zeros_at_copied(&mut dest[..len - 1], &source[1..], first, sentinel);
+    let (_, left) = write_zeros_by_rows(&mut dest[..len - 1], &source[1..], first, sentinel);
     Some(left)
 }
 

@@ -45,8 +45,8 @@ returns-then-not-copy_xored_short-clause-taken c few room nz =
 -- after all steps, the output of the source is in `dest`, and the number of missing bytes is returned
 module _ (c : goal.After-slice_known-3-1) where
   -- what `piece` says of this call
-  decoded : (c.write_zeros_at_copied-left.new.dest ≡ output (xor_each c.args.sentinel c.args.source.now)) × (c.write_zeros_at_copied-left.result.1 ≡ missing (last_part (xor_each c.args.sentinel c.args.source.now)))
-  decoded = piece c.args.source.now c.copy_xored_short.new.dest _ c.args.sentinel (omega arith) (c.if-not-copy_xored_short.ensures.copied refl) (omega arith) c.if-source-sentinel.false (c.if-not-copy_xored_short.ensures.nonzero refl) c.write_zeros_at_copied-left.ensures
+  decoded : (c.write_zeros_by_rows-left.new.dest ≡ output (xor_each c.args.sentinel c.args.source.now)) × (c.write_zeros_by_rows-left.result.1 ≡ missing (last_part (xor_each c.args.sentinel c.args.source.now)))
+  decoded = piece c.args.source.now c.copy_xored_short.new.dest _ c.args.sentinel (omega arith) (c.if-not-copy_xored_short.ensures.copied refl) (omega arith) c.if-source-sentinel.false (c.if-not-copy_xored_short.ensures.nonzero refl) c.write_zeros_by_rows-left.ensures
 
 -- the output has one byte fewer than the source
 pub returns-clause-len : goal.returns-clause-len

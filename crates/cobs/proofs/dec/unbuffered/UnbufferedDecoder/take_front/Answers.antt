@@ -59,18 +59,18 @@ module _ (bytes dest copied : List ℕ) (some : 1 < length bytes) (few : length 
       = rw (due, long) (phase_with-begun (eqb code 255) left (length bytes - 1) (omega (arith, some))) in
       rw (phase, ← buffer) (subst (λ xs. FeedsQuietly dest Idle xs (over 0 dest ys) (Within (eqb code 255) left (length codes))) (sym are) f)
 
--- the front of the buffer has the bytes after the first code, as `write_zeros_at_copied` requires; the XOR with 0
+-- the front of the buffer has the bytes after the first code, as `write_zeros_by_rows` requires; the XOR with 0
 -- changes nothing
-pub write_zeros_at_copied-code-requires-clause-copied : goal.write_zeros_at_copied-code-requires-clause-copied
-write_zeros_at_copied-code-requires-clause-copied c =
+pub write_zeros_by_rows-code-requires-clause-copied : goal.write_zeros_by_rows-code-requires-clause-copied
+write_zeros_by_rows-code-requires-clause-copied c =
     let bytes : List ℕ = c.args.bytes.now in
     rw (xor_each-zero (take (length bytes - 1) (drop 1 bytes)))
     (front-is bytes c.args.dest.now c.copy_window-zeros.new.dest c.if-len-lt2.false c.requires.few c.requires.nonzero
     c.copy_window-zeros.ensures.copied ∙ sym (take_rest bytes 1))
 
 -- none of these bytes, nor the first code, is a zero
-pub write_zeros_at_copied-code-requires-clause-nonzero : goal.write_zeros_at_copied-code-requires-clause-nonzero
-write_zeros_at_copied-code-requires-clause-nonzero c =
+pub write_zeros_by_rows-code-requires-clause-nonzero : goal.write_zeros_by_rows-code-requires-clause-nonzero
+write_zeros_by_rows-code-requires-clause-nonzero c =
     let bytes : List ℕ = c.args.bytes.now in
     let copied : List ℕ = c.copy_window-zeros.new.dest in
     let is = c.copy_window-zeros.ensures.copied in
@@ -81,4 +81,4 @@ write_zeros_at_copied-code-requires-clause-nonzero c =
 pub returns-clause-fed : goal.returns-clause-fed
 returns-clause-fed c taken =
     rw c.requires.idle (fed c.args.bytes.now c.args.dest.now c.copy_window-zeros.new.dest c.if-len-lt2.false c.requires.few c.requires.nonzero
-    c.copy_window-zeros.ensures.copied c.if-dest-len.false _ _ _ _ c.write_zeros_at_copied-code.ensures (joint-is _ _ c.joint_after.ensures.full c.joint_after.ensures.other))
+    c.copy_window-zeros.ensures.copied c.if-dest-len.false _ _ _ _ c.write_zeros_by_rows-code.ensures (joint-is _ _ c.joint_after.ensures.full c.joint_after.ensures.other))

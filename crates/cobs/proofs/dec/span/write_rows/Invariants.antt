@@ -1,7 +1,7 @@
 -- The first `len` bytes all equal `byte`, and as many zeros are written, from index `at` on. Every other byte of `dest`
 -- is as it was. `most` is the greatest number of zeros that may be written.
 use Rattle.std.proofs.Common.{◌≡◌, ◌≤◌, ◌+◌, ◌-◌, ◌++◌, take, drop, replicate}
-use Rattle.cobs.proofs.dec.run.write_rows.Given as goal
+use Rattle.cobs.proofs.dec.span.write_rows.Given as goal
 
 abbrev pub invariant-by_row : goal.invariant-by_row
 invariant-by_row l = record {

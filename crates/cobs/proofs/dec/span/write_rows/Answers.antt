@@ -2,7 +2,7 @@
 use Rattle.std.proofs.Common.{◌+◌, ◌++◌, List, ℕ, take, drop, replicate, ap, ◌∙◌, arith}
 use Rattle.std.proofs.Math.Seq.{take-add}
 use Rattle.std.proofs.lemmas.List.{length-replicate, replicate-append-replicate}
-use Rattle.cobs.proofs.dec.run.write_rows.Goals as goal
+use Rattle.cobs.proofs.dec.span.write_rows.Goals as goal
 use Rattle.cobs_bytes.proofs.bytes.ListLemmas.{three-next}
 
 -- one more row is written: its 32 codes are 32 more bytes that equal `byte`
