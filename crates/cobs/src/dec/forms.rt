@@ -1,4 +1,4 @@
-//! The forms of `decode`: for any sentinel, and into a vector.
+//! `decode_with_sentinel`, which decodes for any sentinel, and the calls that decode into a new vector.
 ghost use Rattle.std.specs.Prelude.{◌≡◌, ◌≢◌, ◌≤◌, length, List, ℕ, [], IfOk, IfErr, IsOkAnd};
 ghost use Rattle.cobs.specs.Overwritten.{overwritten};
 ghost use Rattle.cobs.specs.Decode.{head_result_within, result_of_sentinel_decode, decoded, decoded_head, IsErrorFor};

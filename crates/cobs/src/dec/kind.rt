@@ -1,12 +1,12 @@
-//! The kind of a frame: whether some bytes are a frame, and if so, whether encoders write this frame for its message.
+//! Tells whether some bytes are a frame, and whether the frame is the one that encoders write for its message.
 ghost use Rattle.std.specs.Prelude.{◌≡◌, ◌↔◌};
 ghost use Rattle.cobs.specs.Grammar.{HasNoZero, IsCanonical, IsFrame};
 
 use crate::block::FULL_CODE;
 use crate::find::zero_or_len;
 
-/// Whether some bytes are a frame, and if so, whether encoders write this frame for its message. (The names of the
-/// variants are this library's own.)
+/// Whether some bytes are a frame, and whether the frame is the one that encoders write for its message. (The names of
+/// the variants are this library's own.)
 ///
 /// ```
 /// assert_eq!(rt; frame_kind(&[]), FrameKind::NotAFrame);
@@ -26,7 +26,7 @@ pub enum FrameKind {
     Longer,
 }
 
-/// Returns whether the bytes are a frame, and whether encoders write this frame for its message.
+/// Returns whether the bytes are a frame, and whether the frame is the one that encoders write for its message.
 ///
 /// `bytes` are the bytes between two sentinels. If a message has two frames, the longer frame is the one whose last two
 /// blocks are a full block, with the code 255, and the block 01. Decoders return the same message for both frames. The

@@ -43,7 +43,7 @@ impl UnbufferedDecoder {
         self.missing = code - 1;
     }
 
-    /// Returns how many of the next `len` bytes a span may contain. If the open block is full, the span ends no later
+    /// Returns the greatest length of a span in the next `len` bytes. If the open block is full, the span ends no later
     /// than the open block. If no piece has begun, the function returns 0.
     #[inline(always)]
     pub(crate) fn span_len(&self, len: usize) -> usize

@@ -176,7 +176,8 @@ fn write_codes_of_zeros(source: &[u8], dest: &mut [u8], at: usize) -> usize
 /// block, the function closes this block and returns. The caller then copies the rest of the run in slices, because a
 /// run that fills one block often fills more blocks. If these bytes don't fill the open block, the function writes a
 /// code over each zero of the window, and the last block stays open for the next window. If the window has only zeros,
-/// rows of 32 zeros after it aren't copied: their codes are written 32 at a time. No byte after the frame is written.
+/// rows of 32 zeros after it aren't copied: their codes are written 32 at a time. The bytes of `dest` after the frame
+/// don't change.
 ///
 /// In the body of the function, the code of the open block belongs at `index`, and the window is copied to `next`. If
 /// the window has a zero, the first zero is copied to `place`, and the bytes of the open block end before `place`. If

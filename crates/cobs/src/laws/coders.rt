@@ -119,12 +119,14 @@ pub fn law_17()
 
 /// Streaming decoders return the message of each frame, and no other message.
 ///
-/// Assume that the buffer has room for the message of a frame. After all bytes of the frame have been fed, `feed` of
-/// the zero after the frame returns the length of the message. If a call of `feed_piece` passes a piece, a zero and any
-/// further bytes to an idle decoder, the call stops after that zero. If the piece is the frame, the call returns the
-/// length of the message. A `push` of the frame and a zero to an idle decoder returns the length of the message too.
-/// After each of these calls the buffer begins with the message. If a piece isn't a frame, none of these calls returns
-/// a message for it.
+/// Assume that the buffer has room for the message of a frame. Each of these calls returns the length of the message,
+/// and leaves the message at the front of the buffer:
+///
+/// - `feed` of a zero, after all bytes of the frame have been fed
+/// - `feed_piece` of the frame, a zero and any further bytes, if the decoder was idle; the call stops after the zero
+/// - `push` of the frame and a zero, if the decoder was idle
+///
+/// If a piece isn't a frame, none of these calls returns a message for it.
 ///
 /// So each of these calls decodes the frames that [`encode`](crate::encode) writes.
 ///

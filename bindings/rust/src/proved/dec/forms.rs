@@ -1,5 +1,5 @@
 // Made by bindings/rust/translate.py from `crates/cobs/src/dec/forms.rt`: change that file, and run it again.
-//! The forms of `decode`: for any sentinel, and into a vector.
+//! `decode_with_sentinel`, which decodes for any sentinel, and the calls that decode into a new vector.
 
 use crate::proved::block::FULL_BLOCK_BYTES;
 use crate::proved::cobs_bytes::window::{WIDE_WINDOW, has_vectors};

@@ -1,10 +1,10 @@
 // Made by bindings/rust/translate.py from `crates/cobs/src/dec/kind.rt`: change that file, and run it again.
-//! The kind of a frame: whether some bytes are a frame, and if so, whether encoders write this frame for its message.
+//! Tells whether some bytes are a frame, and whether the frame is the one that encoders write for its message.
 
 use crate::proved::block::FULL_CODE;
 use crate::proved::find::zero_or_len;
 
-/// Whether some bytes are a frame, and if so, whether encoders write this frame for its message.
+/// Whether some bytes are a frame, and whether the frame is the one that encoders write for its message.
 ///
 /// ```
 /// use jcobs::{FrameKind, frame_kind};
@@ -28,7 +28,7 @@ pub enum FrameKind {
     Longer,
 }
 
-/// Returns whether the bytes are a frame, and whether encoders write this frame for its message.
+/// Returns whether the bytes are a frame, and whether the frame is the one that encoders write for its message.
 ///
 /// `bytes` are the bytes between two sentinels. If a message has two frames, the longer frame is the one whose last two
 /// blocks are a full block, with the code 255, and the block 01. Decoders return the same message for both frames. The
