@@ -17,7 +17,9 @@ use Rattle.cobs.specs.Internal.Reaches.{Reaches, start_with}
 use Rattle.cobs.specs.Fields.Progress.{reached_by}
 use Rattle.cobs.specs.declared.enc.unbuffered.UnbufferedEncoder.{UnbufferedEncoder}
 
--- the length of the frame of m and more bytes; a is any list of nonzero bytes, as many as the open block has
+-- The length of the frame of m and more bytes. `a` is any list of nonzero bytes, as many as the open block has.
+-- `after-len` states this length with ones in place of the open block's bytes (`open_len`). Only the number of these
+-- bytes matters, so `a` may take the place of the ones (`same_start`).
 pub after-more : {slice m : List ℕ} {r : Reached} (a bytes : List ℕ) → CobsEncoderAfter slice r m → HasNoZero a → length a + 1 ≡ r.block.code
     → bytes ≢ [] → encoded_len (m ++ bytes) ≡ r.block.index + encoded_len (a ++ bytes)
 after-more {r = r} a bytes h nonzero long some =

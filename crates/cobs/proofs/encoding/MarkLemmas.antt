@@ -233,4 +233,5 @@ pub slice-joined : {s : Start} {slice part : List ℕ} {index next k n m : ℕ} 
     → 0 < k → next + k ≤ index + 255 → n ≡ k → m ≡ k → part ≡ take m s.source → Reaches s (put_mid next n slice part) k index (next + k) IsNotFull
 slice-joined {s} {slice} {part} {index} {next} {k} {n} r nonzero within fits some short n-is m-is part-is =
     let copied : Copied s (put_mid next n slice part) 0 k index next = copied-by r (omega arith) fits (grind (arith, drop-drop)) in
+    -- `copied-joins` counts from index 0, so its result has 0 + k in place of k; `Reaches-at` replaces this number
     Reaches-at refl (omega arith) refl refl (λ full p. p) (copied-joins copied k some (omega arith) short nonzero)

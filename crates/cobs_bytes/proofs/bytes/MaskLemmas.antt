@@ -180,7 +180,9 @@ module _ (bytes : List ℕ) (few : length bytes ≤ 64) where
   pub clear_front : (k : ℕ) → k ≤ lowest (zero_mask bytes) → HasNoZero (take k bytes)
   clear_front k le =
       elim (cases_eq (zero_mask bytes) 0) [
+        -- there is no zero
         | inl none ↦ All-take (λ b. b ≢ 0) k bytes (zero_mask-none bytes none)
+        -- the bytes before the first zero aren't zeros, and their first k bytes are the first k of all bytes
         | inr some ↦ (let front = All-take (λ b. b ≢ 0) k (take (nonzero_len bytes) bytes) (nonzero_len-before bytes some) in
             subst HasNoZero (take-take k (nonzero_len bytes) bytes (omega (arith, lowest_bit bytes few some))) front)
       ]

@@ -11,6 +11,7 @@ returns-then-is_empty-clause-frame c =
     let none : c.args.source.now ≡ [] = grind (arith, common_steps) in
     grind arith
 
+-- the frame of the source, its length (`start-len`: it is `encoded_len` of the source), and the bytes after it
 pub returns : goal.returns
 returns c = record {
   frame = c.close-2.ensures.frame c.args.source.now (start-after c.args.dest.now _ c.new-2.ensures.start (omega arith) c.append-encoder.ensures);
