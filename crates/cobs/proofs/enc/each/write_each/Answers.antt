@@ -52,9 +52,12 @@ module _ {old source slice : List ℕ} {pos index next : ℕ} (some : 0 < length
       let end = whole-fits old source some in
       let r' : Reaches (start old source) slice (length source) index next IsNotFull = rw (← last) r in
       elim (cases_lt next (index + 255)) [
+        -- `front-open` and `start-after`: the encoder has taken the source; then the code of the open block completes
+        -- the frame
         | inl open' ↦ (let sum : index + (next - index) ≡ next = omega arith in
             let after = start-after old _ refl some (front-open (omega arith) r' open' sum refl) in
             rw sum at (closed-open after refl))
+        -- `front-filled` sets the code 255, so the frame that the encoder has is already complete
         | inr full ↦ (let code : next - index ≡ 255 = omega arith in
             let after = start-after old _ refl some (front-filled (omega arith) (omega arith) r' refl refl) in
             rw code (closed-full after refl))
