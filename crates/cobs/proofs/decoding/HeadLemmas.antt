@@ -41,9 +41,12 @@ head-most t i more found = grind (arith, length-head-is, fails_before_first, cas
 -- first zero.
 pub short_head : (t : List ℕ) (n : ℕ) → length t ≤ length (head t) + 1 → n ≤ length t → length t ≤ n + 1 → 0 < length t → (n < length t → get_or t n 0 ≡ 0) → (n ≡ length t → get_or t (n - 1) 0 ≢ 0) → n ≡ length (head t)
 short_head t n few within last some stop other = elim (cases_lt n (length t)) [
+  -- n bytes and a zero: at most n bytes are before the first zero, and `few` says that it is at least n
   | inl less ↦ omega (arith, head-most t n less (stop less))
   | inr all ↦ elim (cases_lt (length (head t)) (length t)) [
+    -- t would end in its first zero, but its last byte isn't a zero (`other`)
     | inl less ↦ absurd (other (omega arith) (ap (λ (k : ℕ). get_or t k 0) (omega arith) ∙ head-stop t less))
+    -- no zero is in t, so all its bytes, which are n, are before the first zero
     | inr whole ↦ omega (arith, length-head t)
   ]
 ]

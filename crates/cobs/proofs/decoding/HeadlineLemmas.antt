@@ -49,6 +49,8 @@ reported TooLong result buffer m h = grind arith
 returns-reads : (f m : List ℕ) (n : ℕ) (result : Result ℕ DecodeError) (buffer : List ℕ) → IsPiece f → All (λ b. b < 256) f
     → Reported (outcome_of f n) result buffer → ReturnsMessage result buffer m ↔ (Reads f m × (length m ≤ n))
 returns-reads f m n result buffer piece below h =
+    -- `r`: the call returns m exactly if the outcome is `Message m`; `o`: this is so exactly if f is a frame of m that
+    -- fits
     let r = reported (outcome_of f n) result buffer m h in
     let o = outcome_message f m n piece below in
     grind arith
@@ -80,6 +82,8 @@ module _ (f old : List ℕ) (result : Result DecodeReport DecodeError) (new : Li
   decode_reported : IsPiece f → (m : List ℕ) → ReportsMessage result new m ↔ (Reads f m × (length m ≤ length old))
   decode_reported piece m =
       let written : new ≡ overwritten old (output f) = rw (first_piece_alone f piece.0 piece.1) at after in
+      -- the result is the report of the outcome of f (`result_of_decode_alone`), so it returns m exactly if the
+      -- outcome's result does (`reports`), and so exactly if f is a frame of m that fits (`returns-reads`)
       rw (returned, result_of_decode_alone f (length old) piece)
       (reports (len_through_piece f f) (outcome_result (outcome_of f _)) new m _
       (returns-reads f m _ (outcome_result (outcome_of f _)) new piece below (decode-reported f old new _ refl written)))
@@ -104,7 +108,9 @@ result_of_sentinel_decode_alone (byte ∷ bytes) n piece = grind (arith, head_al
 -- a piece that is broken or too long is rejected
 within-rejected : (f : List ℕ) (n : ℕ) → f ≢ [] → (is_whole f ≡ false) ⊎ (n < length (output f)) → (error : DecodeError) × (head_result_within f n ≡ Err error)
 within-rejected f n some either = elim (cases_lt n (length (kept_output f))) [
+  -- the kept output doesn't fit
   | inl more ↦ (TargetBufTooSmall, grind arith)
+  -- the kept output fits, so the piece must be broken: all output of a whole piece is kept (`all-kept`)
   | inr fits ↦ (InvalidFrame (length (kept_output f)), grind (arith, all-kept, cases_Bool, result-fits))
 ]
 
@@ -113,6 +119,7 @@ source-reported : (f buffer buffer' : List ℕ) (outcome : Outcome) → outcome_
     → buffer' ≡ overwritten buffer (kept_output f) → Reported outcome (head_result_within f (length buffer)) buffer'
 source-reported f buffer buffer' (Message m) e some is =
     let (fits, whole, same) = outcome_says f (length buffer) e in
+    -- the piece is whole, so its whole output is kept, which fits: the result has no need of `TargetBufTooSmall`
     let kept = all-kept f whole in
     (sym (result-fits f _ (omega (arith, ap length kept))) ∙ (grind arith), rw (is, kept, same) (overwritten-begins buffer (output f) fits))
 source-reported f buffer buffer' (Broken count) e some is = within-rejected f (length buffer) some (inl (outcome_says f (length buffer) e).1)
@@ -125,6 +132,7 @@ module _ (f old : List ℕ) (result : Result ℕ DecodeError) (new : List ℕ) (
   source_reported : IsPiece f → (m : List ℕ) → ReturnsMessage result new m ↔ (Reads f m × (length m ≤ length old))
   source_reported piece m =
       let written : new ≡ overwritten old (kept_output f) = rw (head_alone f piece.1) at after in
+      -- for a piece, the result is `head_result_within f`, which reports the outcome of f (`source-reported`)
       rw (returned, result_of_sentinel_decode_alone f (length old) piece)
       (returns-reads f m _ _ new piece below (source-reported f old new _ refl piece.0 written))
 
@@ -155,6 +163,8 @@ module _ (f : List ℕ) (result : Result DecodeReport DecodeError) (new : List �
   -- for a piece f, the report returns m exactly if f is a frame of m that fits the buffer
   in_place_reported : IsPiece f → (m : List ℕ) → ReportsMessage result new m ↔ (Reads f m × (length m ≤ length f))
   in_place_reported piece m =
+      -- the report has the result of decoding in place, which is that of `decode_with_sentinel` for a buffer of the
+      -- same length (`in_place-source`), so `source_reported` holds for it
       rw returned
       (reports (length (head f)) (result_in_place f) new m _ (source_reported f f (result_in_place f) new (in_place-source f) after below piece m))
 

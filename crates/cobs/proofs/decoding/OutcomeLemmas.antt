@@ -107,7 +107,9 @@ pub head-is : (t : List ℕ) → head t ≡ take_while (λ b. not (b == 0)) t
 unfolding head
 head-is [] = refl
 head-is (byte ∷ t) = elim (cases_eq byte 0) [
+  -- the first byte is a zero, so no byte is before it
   | inl none ↦ rw none refl
+  -- the first byte isn't a zero, so both sides begin with it, and continue alike by induction
   | inr some ↦ rw (head-cons byte t some, head-is t, take_while-cons (λ b. not (b == 0)) byte t, ne_eqb byte 0 some) refl
 ]
 
@@ -139,6 +141,8 @@ pub head_reads : (byte : ℕ) (bytes m : List ℕ) → byte ≢ 0 → All (λ b.
 head_reads byte bytes m some below =
     let t = byte ∷ bytes in
     let piece : IsPiece (head t) = grind (arith, head-cons, head_nonzero) in
+    -- `both`: the outcome is `Message m` exactly if these bytes are a frame of m that fits, and each message of such a
+    -- frame fits
     let both = outcome_message (head t) m (length t) piece (head_all (λ b. b < 256) t below) in
     grind (arith, frame_output, output_within, length-head)
 

@@ -14,7 +14,9 @@ module _ (P : List ℕ → Type 0) (none : P []) (last : (code : ℕ) (bytes : L
   part_by_part n [] h = none
   part_by_part zero (code ∷ bytes) h = grind arith
   part_by_part (suc n) (code ∷ bytes) h = elim (cases_lt (code - 1) (length bytes)) [
+    -- bytes follow the first part, and P holds for them by induction
     | inl long ↦ more code bytes long (part_by_part n (drop (code - 1) bytes) (omega (arith, length-drop (code - 1) bytes)))
+    -- the piece is one part (`last`)
     | inr short ↦ grind arith
   ]
 

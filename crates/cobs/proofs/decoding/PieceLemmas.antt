@@ -40,6 +40,7 @@ grown-more code bytes b more rest = grind (arith, last_part-more, output-more, l
 -- each piece that isn't empty grows in this way: by induction on the parts
 grown : (c : ℕ) (p : List ℕ) (b : ℕ) → Grown (c ∷ p) b
 grown c p b =
+    -- `by_parts` needs the fact for the empty piece too, so it is stated for pieces with at least one byte
     by_parts (λ (l : List ℕ). 0 < length l → Grown l b) (λ some. absurd (omega arith)) (λ code bytes short some. grown-last code bytes b short)
     (grind (arith, grown-more, length-drop)) (c ∷ p) (omega arith)
 

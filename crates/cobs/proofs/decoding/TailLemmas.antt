@@ -30,6 +30,7 @@ into_last p (x ∷ xs) h =
 joins : (h : List ℕ) (at n : ℕ) → n ≤ length (drop at h) → n ≤ missing (last_part (take at h))
     → missing (last_part (take (at + n) h)) + n ≡ missing (last_part (take at h))
 joins h at n within few =
+    -- `l`: n bytes join the last part, and `into_last` says that as many fewer are missing
     let l = length-take-le n (drop at h) within in
     rw (take-add at n h) (omega (arith, (into_last (take at h) (take n (drop at h)) (omega arith)).left))
 
@@ -66,6 +67,8 @@ module _ (h : List ℕ) (at code : ℕ) (here : at < length h) (is : code ≡ ge
 
     -- bytes of the last part of h are missing
     pub broken-last : missing (last_part h) ≢ 0
+    -- if no byte were missing, the bytes of h after the code would be all bytes of the block (`behind.left`), but they
+    -- are fewer (`short`)
     broken-last e = omega (arith, front-left, length-drop (at + 1) h, rw take-append-drop at behind.left)
 
     -- the kept output of h is the output up to and including the code of this block
@@ -82,6 +85,7 @@ ends-ones (suc n) h at fits ones ends =
     let row = rw (drop_more h at 0 (omega arith)) at ones in
     let one : 1 ≡ get_or h at 0 = cc in
     let others : take n (drop (at + 1) h) ≡ replicate n 1 = cc in
+    -- the first block ends one byte later
     let next = ends-next h at 1 (omega arith) one ends (omega arith) (omega arith) in
     grind (arith, ends-ones n h (at + 1) (omega arith) others next)
 
@@ -102,11 +106,14 @@ kept-from zero h at none small within most ends = (at, grind (arith, take_all, w
 kept-from (suc n) h at none small within most ends = elim (cases_lt at (length h)) [
   | inr all ↦ (at, grind (arith, take_all, whole-kept))
   | inl here ↦
+      -- `some` and `below`: the code is from 1 to 255, since it is a nonzero byte
       let code = get_or h at 0 in
       let some : 0 < code = grind (arith, All-get_or) in
       let below : code < 256 = grind (arith, All-get_or) in
       elim (cases_lt (length h) (at + code)) [
+        -- the block breaks off, so the output is kept up to its code; at most 253 bytes follow the code
         | inl short ↦ (at + 1, (omega arith, broken-kept h at code here refl ends short))
+        -- the block is whole: the next step begins at its end
         | inr fits ↦ kept-from n h (at + code) none small (omega arith) (omega arith) (ends-next h at code here refl ends some (omega arith))
       ]
 ]

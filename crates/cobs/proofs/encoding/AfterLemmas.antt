@@ -22,7 +22,9 @@ pub frame-is : {f m o : List ℕ} {index code : ℕ} (e : IsEncodedFrame f m) (r
     → let full = ends_in_full r.front r.bytes in (is_full (last_of e.reads.blocks) ≡ full) × (f ≡ closed_frame r full)
 frame-is {f} {m} e r =
     let full : Bool = ends_in_full r.front r.bytes in
+    -- `same`: m has only one encoded frame, so f is the closed open frame
     let same = one_encoded f _ m e (encoded-of r full refl) in
+    -- `parse`: f can be cut into blocks in only one way, so its last block is the last of `closed_blocks`
     let parse = one_frame f e.reads.blocks (closed_blocks r full) e.reads.frame (rw same (closed_frame-is_frame r full refl)) in
     (ap (λ l. is_full (last_of l)) parse ∙ closed_blocks-full r full refl, same)
 
@@ -47,8 +49,10 @@ to_after {slice} {m} {index} {next} {full} code is short fits o =
     by_end : (full : Bool) → (if full then index else next) ≤ length slice
         → let frame = closed_frame (open_frame o code is short) full in (length frame ≤ length slice) × AgreeOutside index frame (take (length frame) slice)
     by_end false fits =
+        -- the open frame has `next` bytes, so it is compared with the first `next` bytes of the slice (`open_slice`)
         let long : length (concat o.front ++ code ∷ o.bytes) ≡ next = grind (arith, length-append) in
         (omega arith, rw long (open_slice o code is fits))
+    -- the frame has only `index` bytes, so no byte of it is in the place of the open block's code
     by_end true fits = grind (arith, append-nil, set_past)
 
 -- the encoder has taken m; its slice and its progress are `slice` and `r`
@@ -73,14 +77,20 @@ module _ {slice m : List ℕ} {r : Reached} (h : CobsEncoderAfter slice r m) whe
   -- frame ends in a full block (`inl`), and if it doesn't (`inr`)
   there : (r.full ≡ true) ⊎ (r.full ≡ false) → Opened slice m r.block.index (next_of r) (ends_in_full o.front o.bytes)
   there (inl full) =
+      -- the open block has no bytes (`none`), so its code is 1 (`code-is`), and the frame has only the blocks before it
+      -- (`is`)
       let none = no_bytes o.front o.bytes (sym noted-is ∙ full) in
       let code-is = parts.1.0 in
       let is : h.frame ≡ concat o.front = whole-is full ∙ append-nil (concat o.front) in
       opened-of o refl (grind (arith, set_past)) (grind (arith, drop_all, length-take (next_of r) slice))
   there (inr open') =
+      -- the frame is the whole open frame (`is`), so the front of the slice is the output of a caller (`out`), which
+      -- ends at `next_of r` (`long`)
       let is : h.frame ≡ h.follows.0 = whole-is open' ∙ sym (f-is o) in
       let out : IsOpenOutput (take (length h.follows.0) slice) r.block m = grind arith in
       let long : length h.follows.0 ≡ next_of r = ap length (f-is o) ∙ length-append (concat o.front) _ ∙ omega (arith, parts.1.0) in
+      -- `output-opened` states `Opened` for this front, and `Opened-same` for the slice, because later bytes don't
+      -- matter
       Opened-same (rw long at (output-opened out)) slice (grind (arith, take-take))
 
   -- the converse of `to_after`: the slice of an encoder meets `Opened`
@@ -90,6 +100,8 @@ module _ {slice m : List ℕ} {r : Reached} (h : CobsEncoderAfter slice r m) whe
   -- the encoded frame of m ends at the index that the progress gives
   pub end-is : encoded_len m ≡ end_of r
   end-is =
+      -- both sides are the length of the frame: `length-encoded` gives it as `encoded_len`, and `whole-is` gives its
+      -- parts
       grind (arith, whole-is refl, length-append, sym (length-encoded h.frame m h.encoded), parts.1.0)
 
   -- the frame in the slice ends at this index
@@ -107,6 +119,7 @@ module _ {slice m : List ℕ} {r : Reached} (h : CobsEncoderAfter slice r m) whe
   -- the length of the frame after the encoder has taken these bytes too
   pub after-len : (bytes : List ℕ) → bytes ≢ [] → encoded_len (m ++ bytes) ≡ r.block.index + open_len r.block.code bytes
   after-len bytes some =
+      -- `Opened-len` has the number `next_of r - r.block.index` in place of the code; `code` says that they are equal
       let code : next_of r - r.block.index ≡ r.block.code = omega arith in
       rw code at (Opened-len bytes (λ full. some) from_after)
 

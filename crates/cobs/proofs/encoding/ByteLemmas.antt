@@ -35,6 +35,8 @@ module _ {source slice : List ℕ} {r : Reached} {next : ℕ} (place : IsPlaceIn
   -- a zero closes the open block
   pub byte-zero : {r' : Reached} {code : ℕ} → get_or source 0 0 ≡ 0 → code ≡ r.block.code → r' ≡ place_at next 1 false → TakesFront slice r source 1 (set slice r.block.index code) r'
   byte-zero {code = code} zero coded is =
+      -- `Reaches-zero` writes the code `next - r.block.index`, which is `code` (`code-is`); `front-open` states the
+      -- whole step
       let closed = Reaches-zero start {Q = IsNotFull} fits some zero (omega arith) refl in
       let code-is : next - r.block.index ≡ code = omega arith in
       let long = length-set slice r.block.index code in
@@ -48,6 +50,7 @@ module _ {source slice : List ℕ} {r : Reached} {next : ℕ} (place : IsPlaceIn
   pub byte-joins : {r' : Reached} {code : ℕ} → get_or source 0 0 ≢ 0 → r.block.code ≢ 254 → code ≡ r.block.code + 1
       → r' ≡ place_at r.block.index code false → TakesFront slice r source 1 (set slice next (get_or source 0 0)) r'
   byte-joins other open' coded is =
+      -- the byte was written at `next`, which keeps the slice's length (`long`), so the frame still fits
       let long = length-set slice next (get_or source 0 0) in
       front-open (omega arith) (more other) (omega arith) (omega arith) is
 
@@ -68,6 +71,7 @@ module _ {slice m : List ℕ} {r : Reached} (h : CobsEncoderAfter slice r m) (ro
 
   -- a nonzero byte joins the open block
   pub after-byte : (byte : ℕ) → byte ≢ 0 → r.block.code < 254 → CobsEncoderAfter (set slice (next_of r) byte) (place_at r.block.index (r.block.code + 1) false) (m ++ byte ∷ [])
+  -- the source is this one byte; `.after` of the step says what an encoder that had taken m has taken then
   after-byte byte other short = (byte-joins {source = byte ∷ []} (after-place h) (fits byte) (omega arith) refl other (omega arith) refl refl).after m h
 
   -- the 254th nonzero byte fills the open block, and its code 255 is written

@@ -32,6 +32,7 @@ pub record Copied (s : Start) (slice : List ℕ) (read len index next : ℕ) : T
 pub copied-by : {s : Start} {slice after : List ℕ} {read len index next : ℕ} {P : Bool → Type 0} → Reaches s slice read index next P → read + len ≤ length s.source → whole_end s ≤ length slice
     → after ≡ take next slice ++ (take len (drop read s.source) ++ drop (next + len) slice) → Copied s after read len index next
 copied-by {s} {slice} {after} {read} {len} before inside fits is =
+    -- `r` holds for any last block; `row` says that the copied part has `len` bytes
     let r = Reaches-weaker before {Q = λ _. Unit {0}} (λ full p. tt) in
     let room = least r in
     let row = length-chunk read len s.source inside in
@@ -46,6 +47,7 @@ copied-by {s} {slice} {after} {read} {len} before inside fits is =
 copied-joins : {s : Start} {slice : List ℕ} {read len index next : ℕ} → Copied s slice read len index next → (k : ℕ) → 0 < k → k ≤ len → next + k ≤ index + 255
     → HasNoZero (take k (drop read s.source)) → Reaches s slice (read + k) index (next + k) IsNotFull
 copied-joins {s} {slice} {read} {len} {index} {next} c k some le short nonzero =
+    -- `here`: the slice has these k bytes, as a front of the `len` copied bytes
     let here = sym (take-take k len (drop next slice) le) ∙ ap (take k) c.here ∙ take-take k len (drop read s.source) le in
     Reaches-join c.reaches c.room k (omega arith) short nonzero here (grind arith) (λ z. refl)
 
@@ -76,8 +78,11 @@ module _ {s : Start} {slice : List ℕ} {read len index next zeros : ℕ} (w : C
       let until_full : ℕ = index + 255 - next in
       let sum : next + until_full ≡ index + 255 = omega arith in
       let long = length-chunk read len s.source w.copied.inside in
+      -- `near`: the window's first zero, or its end, doesn't come before these bytes do, so `clear_front` says that
+      -- none of them is a zero
       let near = ap (λ n. min (lowest n) len) w.bits in
       let nonzero = rw (take-take until_full len _ (omega arith)) at (clear_front (take len (drop read s.source)) (omega arith) until_full (omega arith)) in
+      -- these bytes join the open block, which then has 254 bytes, so its code 255 closes it (`Reaches-full`)
       let joined = copied-joins w.copied until_full (omega arith) (omega arith) (omega arith) nonzero in
       Reaches-full (rw sum at joined) more refl w.copied.room refl
 
@@ -103,6 +108,7 @@ module _ {s : Start} {slice : List ℕ} {read len index next zeros d : ℕ} (m :
   -- if no zero is left, the bytes that are left join the open block, and the window is taken
   pub masked-end : zeros ≡ 0 → WindowTaken s slice read len index next
   masked-end none =
+      -- `all`: `lowest` is 64 for the mask 0, so the place of the next zero is after the window
       let all = lowest-none zeros none in
       let nonzero = mask_behind-none d left (sym m.bits ∙ none) in
       let joined = Reaches-join m.reaches {Q = IsNotFull} m.room (len - d) (omega arith) (omega arith) nonzero m.here (grind arith) (λ z. refl) in
@@ -144,13 +150,18 @@ module _ {s : Start} {slice : List ℕ} {read len index next zeros d : ℕ} (m :
         let cut : (xs : List ℕ) (a : ℕ) → drop (j + 1) (take (len - d) (drop (a + d) xs)) ≡ take (len - (k + 1)) (drop (a + (k + 1)) xs) =
         λ xs a. ap (λ m. drop (j + 1) (take m (drop (a + d) xs))) sum ∙ drop-take (j + 1) _ _
         ∙ ap (take _) (grind (arith, drop-drop)) in
+        -- `front`: the first j bytes that are left, as bytes of the source; `there`: one of the bytes that are left is
+        -- a zero
         let front = take-take j (len - d) _ (omega arith) in
         let there = mask_behind-some d left some_bits in
         -- no byte before the zero is a zero; these bytes are in the slice (`here`)
         let nonzero = subst HasNoZero front (nonzero_len-before left there) in
         let here = sym (take-take j (len - d) _ (omega arith)) ∙ ap (take j) m.here ∙ front in
+        -- the byte after them is the zero: it has index j among the bytes that are left, so index `read + d + j` in the
+        -- source
         let zero_at : get_or s.source (read + d + j) 0 ≡ 0 =
         sym (get_or-drop _ s.source j 0) ∙ sym (grind (arith, get_or-take)) ∙ nonzero_len-at left there in
+        -- `joined`: the j bytes join the open block; `closed`: the zero closes it
         let joined = Reaches-join m.reaches {Q = λ _. Unit {0}} m.room j (omega arith) (omega arith) nonzero here (λ full z p. tt) (λ z. tt) in
         let closed = Reaches-zero joined {Q = λ full. 0 < k + 1 → full ≡ false} m.room (omega arith) zero_at (omega arith) (λ lt. refl) in
         let long = length-set slice index (next + k - index) in
@@ -196,6 +207,7 @@ short-copied {source} {old} {slice} {r} {mask} code some few short fits is bits 
 pub window-front : {source old slice : List ℕ} {r r' : Reached} {read len index next : ℕ} → WindowTaken (start_with old r source) slice read len index next
     → read + len ≡ length source → r' ≡ place_at index (next + len - index) false → TakesFront old r source (length source) slice r'
 window-front {source} {old} {slice} {r} {r'} w last is =
+    -- `front-open` states the step for `read + len` bytes, which are all bytes of the source (`last`)
     subst (λ n. TakesFront old r source n slice r') last (front-open w.room w.reaches w.open' (omega arith) is)
 
 -- BYTES THAT ARE TAKEN WITHOUT A MASK
@@ -216,13 +228,17 @@ row-taken {s} {slice} {after} {read} {index} {next} r short fits n some inside z
     let ones : length {A = ℕ} (replicate n 1) ≡ n = length-replicate n 1 in
     let front_long = length-take-le next coded (omega arith) in
     let long : whole_end s ≤ length after = grind (arith, length-append, length-drop) in
+    -- the first byte is a zero (`zero.0`), and so are the other m bytes (`zero.1`)
     let zero = alike-first m read 0 s.source (omega arith) (grind arith) in
     -- the first zero closes the open block (`closed`, `first`), and the other zeros close blocks without bytes
     -- (`taken`)
     let closed = Reaches-zero r {Q = IsNotFull} fits (omega arith) zero.0 short refl in
+    -- the ones change no byte before `next` (`front`), and none after the end of the frame (`back`), so `closed` also
+    -- holds after they are written (`first`)
     let front = ap (take next) is ∙ front-three coded _ next n ones (omega arith) in
     let back : drop (whole_end s) after ≡ drop (whole_end s) s.slice = grind (arith, behind-three) in
     let first = Reaches-same-empty closed after refl front back in
+    -- `row`: the slice has the n ones from `next` on, as `Reaches-ones` needs
     let row = ap (λ l. take n (drop next l)) is ∙ mid-three coded _ next n ones (omega arith) in
     let taken = Reaches-ones m first (omega arith) long zero.1 (grind arith) in
     record { ordered = omega arith; open' = omega arith; room = long; reaches = grind arith }

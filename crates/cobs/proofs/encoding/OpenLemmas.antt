@@ -68,9 +68,13 @@ module _ {m f : List ℕ} {index code : ℕ} (o : IsOpenFrame f m index code) wh
   -- these blocks don't end in a full block followed by the lone block
   closed_blocks-shorter : (full : Bool) → ends_in_full o.front o.bytes ≡ full → IsShorter (closed_blocks full)
   closed_blocks-shorter false noted fr c full e =
+      -- if these blocks ended in a full block and the lone block, the open block would be the lone block after a full
+      -- block, but `noted` says that it isn't
       let same = same_from_push o.front (fr ++ c ∷ []) (code ∷ o.bytes) lone_block (grind (arith, append_assoc)) in
       grind (arith, last_of-push)
   closed_blocks-shorter true noted fr c full e =
+      -- if the blocks before the open block ended in the lone block, their last block wouldn't be full, but `noted`
+      -- says that it is
       grind (arith, append_assoc, last_of-push (fr ++ c ∷ []) lone_block)
 
   -- these blocks stand for m too

@@ -30,6 +30,7 @@ module _ {slice m : List ℕ} {index next : ℕ} {full : Bool} (o : Opened slice
   -- the bytes after the open block don't matter
   pub Opened-same : (slice' : List ℕ) → take next slice' ≡ take next slice → Opened slice' m index next full
   Opened-same slice' same =
+      -- the bytes before the open block (`index` bytes) are a front of the `next` bytes that are the same
       let le : index ≤ next = omega arith in
       Opened-in slice' (sym (take-take index next slice' le) ∙ ap (take index) same ∙ take-take index next slice le) (grind arith)
 
@@ -128,6 +129,8 @@ module _ {g m : List ℕ} {state : OpenBlock} (o : IsOpenOutput g state m) where
   -- g has the open frame of m, except the open block's code
   pub output-opened : Opened g m state.index next (ends_in_full o.1.front o.1.bytes)
   output-opened =
+      -- before the bytes of the open block, g has the other blocks and one byte: `one` counts these bytes, and
+      -- `drop_at` drops them
       let one : length (front ++ o.2.0 ∷ []) ≡ state.index + 1 = grind (arith, length_push) in
       let all = take_all next g (omega (arith, length-IsOpenOutput)) in
       opened-of o.1 refl
@@ -168,6 +171,8 @@ module _ {slice m : List ℕ} {index next : ℕ} {full : Bool} (o : Opened slice
       let front_long = length-take-le next slice fits in
       -- x is the byte in the place of the code
       let x : ℕ = get_or (take next slice) index 0 in
+      -- `split`, `front` and `rest` cut these bytes before and after x, so `o.written` and `o.bytes_there` give both
+      -- parts
       let split = take-append-drop index (take next slice) in
       let front = take-take index next slice (omega arith) in
       let rest = drop_more (take next slice) index 0 (omega arith) in
@@ -187,6 +192,7 @@ module _ {g m : List ℕ} {state : OpenBlock} (o : IsOpenOutput g state m) where
   -- g with the right code is the open frame
   pub completed : IsOpenFrame (set g state.index state.code) m state.index state.code
   completed =
+      -- the code is set in `output-is`, which has another byte in its place; the result is the open frame (`f-is`)
       let is = ap (λ l. set l state.index state.code) (output-is o) ∙ set_at (front o) o.2.0 o.1.bytes state.code state.index (begins o) ∙ sym (f-is o.1) in
       rw is o.1
 
@@ -196,8 +202,10 @@ module _ {g m : List ℕ} {state : OpenBlock} (o : IsOpenOutput g state m) where
   open-zero x =
       let long = length-IsOpenOutput o in
       let code' = length-set g state.index state.code in
+      -- the code closes the open block (`closed`), whose joint is the zero (`zero`), as its code isn't 255
       let closed = Opened-close (output-opened o) state.code (omega arith) refl in
       let zero : joint (state.code ∷ []) ≡ 0 ∷ [] = grind arith in
+      -- `out`: this also holds with x in the place of the next code, since the new open block has no bytes
       let out = Opened-same-empty closed _ refl (take-append-le _ _ _ (omega arith)) in
       rw zero at (opened-output out 1 refl (omega arith) (length_push _ x ∙ omega arith))
 
@@ -208,6 +216,7 @@ module _ {g m : List ℕ} {state : OpenBlock} (o : IsOpenOutput g state m) where
     joins =
         let long = length-IsOpenOutput o in
         let longer = length_push g byte in
+        -- `same`: the appended byte comes after the open block, so it doesn't matter yet; `Opened-join` then takes it
         let same = Opened-same (output-opened o) (g ++ byte ∷ []) (take-append-le _ _ _ (omega arith)) in
         grind (arith, Opened-join, drop_at)
 
@@ -221,11 +230,15 @@ module _ {g m : List ℕ} {state : OpenBlock} (o : IsOpenOutput g state m) where
         let long = length-IsOpenOutput o in
         let longer = length_push g byte in
         let sum : next o + 1 ≡ state.index + 255 = omega arith in
+        -- the code 255 closes the open block, which has the byte already (`joins`)
         let closed = Opened-close joins 255 (omega arith) (sym sum) in
+        -- `out`: this also holds for the list with x, whose bytes before x are the same; `coded` says that the code can
+        -- be set before or after the byte is appended
         let out = Opened-same-empty closed _ refl (
         let coded = set-append_left g _ state.index 255 (index-IsOpenOutput o) in
         let long' = length-set g state.index 255 in
         let long_push = length_push (set g state.index 255) byte in
         ap (take _) (sym (append_assoc _ (byte ∷ []) (x ∷ []))) ∙ take-append-le _ _ _ (omega arith) ∙ ap (take _) (sym coded)
         ) in
+        -- the joint of a full block is empty, so nothing is added to the message (`append-nil`)
         rw (sum, append-nil) at (opened-output out 1 refl (omega arith) (grind (arith, length-append, length-set)))

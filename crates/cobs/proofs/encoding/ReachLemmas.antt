@@ -48,6 +48,8 @@ module _ {s : Start} {slice : List ℕ} {pos index next : ℕ} {P : Bool → Typ
       short = short;
       within = within;
       end =
+          -- the open block's code is greater by k, and `open_len-run` says that the length from this block on is the
+          -- same
           let sum : next - index + k ≡ next + k - index = omega arith in
           let joined = rw sum at (open_len-run s.source pos k (next - index) (omega arith) within nonzero) in
           omega arith;
@@ -130,5 +132,9 @@ Reaches-ones (suc n) {s} {slice} {pos} {index} r within fits zeros ones =
     -- `same`: the code of the first block is the one that is already in its place
     let code : index + 1 - index ≡ get_or slice index 0 = omega arith in
     let same : set slice index (index + 1 - index) ≡ slice = grind (arith, set-get_or) in
+    -- the first zero closes the first block, by `Reaches-zero`, whose result has the slice with the code set; `same`
+    -- says that this is the slice
     let closed = rw same at (Reaches-zero r {Q = IsNotFull} fits (omega arith) zero.0 (omega arith) refl) in
+    -- the other n zeros, by induction; the result has pos + 1 + n in place of pos + suc n, and `Reaches-at` replaces
+    -- such numbers
     Reaches-at refl (omega arith) (omega arith) (omega arith) (λ full p. p) (Reaches-ones n closed (omega arith) fits zero.1 one.1)

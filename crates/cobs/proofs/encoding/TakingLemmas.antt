@@ -62,7 +62,9 @@ module _ {source old slice : List ℕ} {r r' : Reached} (fits : end_after r sour
       let place : Reached = place_at index code full in
       -- `end`: the end of the frame is the same, counted from the new progress, whether bytes are left or not
       let end : end_after place (drop pos source) ≡ end_after r source = elim (cases_lt pos (length source)) [
+        -- if bytes are left, `open_len` counts the end in both
         | inl more ↦ grind (arith, after-some, length-drop)
+        -- if none is left, the frame ends with the open block (`ends`), since it doesn't end in a full block (`last`)
         | inr none ↦ (let all : pos ≡ length source = omega arith in rw (drop_all pos source (omega arith), last all, ends s all) (omega arith))
       ] in
       grind (arith, to_after)
@@ -81,6 +83,7 @@ module _ {source old slice : List ℕ} {r r' : Reached} (fits : end_after r sour
       let e = ends s last in
       rw is (record {
         place = grind arith;
+        -- `full-taken`: with its code 255, the slice has the frame of m and the source, which ends in a full block
         after = λ m h. to_after 1 refl (omega arith) (omega arith) (full-taken s refl (omega arith) m h);
         end = grind arith;
         rest = grind (arith, drop-set-lt);
@@ -93,7 +96,10 @@ pub front-filled : {source old slice : List ℕ} {r r' : Reached} {pos index nex
 front-filled {source} {old} {slice} {r} {r'} {pos} {index} fits full s one is =
     let long = length-set slice index 255 in
     elim (cases_lt pos (length source)) [
+      -- if bytes are left, they begin the next block (`Reaches-full`)
       | inl more ↦ front-taken (omega arith) (Reaches-full s more full fits refl) (omega arith) (grind arith) (omega arith) is
+      -- if none is left, the full block ends the frame; `front-full` has index + 255 in place of `next`, so
+      -- `Reaches-at` replaces this number
       | inr none ↦ front-full fits (Reaches-at refl refl refl full (λ full p. p) s) (omega arith) (rw (full, one) at is)
     ]
 

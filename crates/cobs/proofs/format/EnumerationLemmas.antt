@@ -52,6 +52,8 @@ ends_in_full g m e =
 
 -- an encoder that has taken m can take one more byte b; its open block is then `next_open state b`
 pub EncoderAfter-push : (state : OpenBlock) (m : List ℕ) (b : ℕ) → EncoderAfter state m → EncoderAfter (next_open state b) (m ++ b ∷ [])
+-- an open frame with 0 in the place of its code is the output of a caller, so `open-zero` gives the next output, whose
+-- open frame is the result; `open-full` and `open-more` below do the same for other bytes
 EncoderAfter-push state m zero (f, o) = let r = open-zero (f, o, (0, refl)) 0 in (r.0, r.1)
 EncoderAfter-push state m (suc b) (f, o) = ⊎_elim
     (λ (full : state.code ≡ 254). grind (arith, open-full (f, o, (0, refl)) (suc b) (λ e. omega arith) 0 full))
@@ -66,6 +68,8 @@ after_all (b ∷ more) m state h = grind (arith, EncoderAfter-push, append_assoc
 -- each message has an encoded frame, which follows from the open frame of an encoder that has taken the whole message
 pub encoded_frame : (m : List ℕ) → (f : List ℕ) × IsEncodedFrame f m
 encoded_frame m =
+    -- an encoder that has taken nothing takes m; the encoded frame is its open frame, or this frame without the lone
+    -- block (`encoded-of`)
     let r = after_all m [] (record { index = 0; code = 1 }) (lone_block, IsOpenFrame-start) in
     (_, encoded-of r.1.1 _ refl)
 
@@ -78,7 +82,9 @@ frames_of f m r =
     let (g, e) = encoded_frame m in
     let s = e.reads in
     elim (same_blocks r.blocks s.blocks r.frame.some s.frame.some r.frame.each s.frame.each (IsEncodedFrame-shorter g m e) (grind arith)) [
+      -- the frame has the same blocks, so it is the encoded frame
       | inl same ↦ grind arith
+      -- the frame has one more block, the lone block, after a full block
       | inr (front, block, full, is, longer) ↦ inr (
         (ends_in_full g m e).0 (grind (arith, last_of-push)),
         (g, e, grind (arith, concat-append, append_assoc)),
@@ -118,5 +124,6 @@ pub open_longer : (f m : List ℕ) (index code : ℕ) → IsOpenFrame f m index 
 open_longer f m index code o x = ⊎_elim
     -- the encoded frame of such a message ends in a full block, but the last block of an open frame isn't full
     (λ e. grind (arith, last_of-push, (ends_in_full f m (record { reads = open_reads f m index code o; canonical = e.canonical })).1 x))
+    -- so the open frame is the other one of the two frames of m
     (λ w. w.1)
     (frames_of f m (open_reads f m index code o))

@@ -26,6 +26,7 @@ pub Reads-append : (f m g k : List ℕ) (r : Reads f m) → Reads g k → Reads 
 Reads-append f m g k r s = record {
   blocks = r.blocks ++ s.blocks;
   frame = record {
+    -- if the two lists of blocks together were empty, the first list would be empty, but a frame has a block
     some = λ none. r.frame.some (nil_from_length r.blocks (omega (arith, ap length none, length-append r.blocks s.blocks)));
     each = All-append IsBlock r.blocks s.blocks r.frame.each s.frame.each;
     whole = cc (concat-append r.blocks s.blocks);
@@ -47,7 +48,9 @@ message_of-front first (b ∷ rest) some = (_, message_of-append first (b ∷ re
 -- a front p of a frame is itself a frame exactly if it ends at the end of a block
 pub front_frame : (p q m : List ℕ) (r : Reads (p ++ q) m) → p ≢ [] → IsFrame p ↔ EndsAtBlock p r.blocks
 front_frame p q m r some = (
+  -- if p is a frame, its blocks are the first blocks of the whole frame
   λ (k, s). (s.blocks, parts q, first_blocks p q r.blocks s.blocks r.frame s.frame, s.frame.whole),
+  -- if p ends at the end of a block, the blocks up to there are a frame
   λ (first, rest, is, ends). (
     message_of first,
     record {

@@ -66,6 +66,7 @@ full_blocks-le (p ∷ q ∷ ps) = grind (arith, length-append, full_blocks-le (q
 -- length.
 pub encoded_len-le : (m : List ℕ) → encoded_len m ≤ max_encoded_len (length m)
 encoded_len-le m =
+    -- `h`: the bound for the stretches of m, whose bytes, joined with zeros, are m again
     let h = subst (λ x. full_blocks (runs m) + 1 ≤ max_overhead (length x)) (join_with_byte-slice_split 0 m) (full_blocks-le _) in
     omega arith
 
@@ -81,6 +82,7 @@ encoded_len-nonzero m h = grind (arith, slice_split_none)
 pub encoded_len-reached : (n : ℕ) → (m : List ℕ) × (length m ≡ n) × All (λ byte. byte < 256) m × (encoded_len m ≡ max_encoded_len n)
 encoded_len-reached n =
     let l : length _ ≡ n = length-replicate n 1 in
+    -- `h`: the bound is reached with the length of the n ones, which is n (`l`)
     let h = encoded_len-nonzero _ (All-replicate (λ byte. byte ≢ 0) n 1 (λ e. cc)) in
     (_, l, All-replicate (λ byte. byte < 256) n 1 (omega arith), h ∙ ap max_encoded_len l)
 

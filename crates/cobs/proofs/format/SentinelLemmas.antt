@@ -50,6 +50,7 @@ first_xored (b ∷ bytes) s some = refl
 pub behind_sentinels : (dest part : List ℕ) (k n : ℕ) → n ≤ k → length part ≡ k → k < length dest → drop n part ≡ drop n (take k (drop 1 dest))
     → drop (n + 2) (set (set (put_mid 1 k dest part) 0 0) (n + 1) 0) ≡ drop (n + 2) dest
 behind_sentinels dest part k n short len within behind =
+    -- the bytes are compared one by one; the premise `behind` is used for the byte at the same place of the part
     same_lists _ _ (search (rules, places)) (λ i d h. grind (arith, places, ap (λ x. get_or x (1 + i) d) behind))
 
 -- FREE OF THE SENTINEL
@@ -57,6 +58,7 @@ behind_sentinels dest part k n short len within behind =
 -- bytes without s have no zero after the XOR with s
 pub coded_nonzero : (f : List ℕ) (s : ℕ) → IsFreeOf s f → HasNoZero (xor_each s f)
 coded_nonzero f s free =
+    -- if the XOR of a byte and s is 0, a second XOR with s shows that the byte is s
     All-map (λ b. b ≢ 0) (λ b. bit_xor b s) f (All-weaker (λ b. b ≢ s) (λ b. bit_xor b s ≢ 0) (λ b other e. other (sym (xor_twice b s) ∙ ap (λ x. bit_xor x s) e)) f free)
 
 -- no byte of an encoded frame is a zero
@@ -66,6 +68,7 @@ encoded_nonzero {f} {m} e = frame_nonzero f m e.reads
 -- a frame, after each byte is XORed with s, doesn't contain s
 pub no_sentinel : (f : List ℕ) (s : ℕ) → IsFrame f → IsFreeOf s (xor_each s f)
 no_sentinel f s (m, r) = All-map (λ b. b ≢ s) (λ b. bit_xor b s) f
+    -- if the XOR of a byte and s is s, a second XOR with s shows that the byte is 0
     (All-weaker (λ b. b ≢ 0) (λ b. bit_xor b s ≢ s) (λ b some is. some (sym (xor_twice b s) ∙ ap (λ x. bit_xor x s) is ∙ xor_self s)) f (frame_nonzero f m r))
 
 -- bytes that are a frame after the XOR with s don't contain s

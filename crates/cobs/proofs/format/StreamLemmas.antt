@@ -154,6 +154,7 @@ nonempty-unended_last p bytes h =
     -- all bytes but the last one, and the last one
     let same : bytes ≡ take (length bytes - 1) bytes ++ get_or bytes (length bytes - 1) 0 ∷ []
     = sym (grind (arith, take_all)) ∙ take_more bytes _ 0 (omega arith) in
+    -- `nonempty-unended_push` states this for the two parts, which together are p and all bytes
     nonempty-unended_push (p ++ take (length bytes - 1) bytes) _
     ∙ ap (λ x. is_nonempty (unended x)) (grind (arith, append_assoc))
 

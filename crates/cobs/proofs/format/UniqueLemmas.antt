@@ -62,6 +62,7 @@ same_first : (b c : List ℕ) (bs cs : List (List ℕ)) → All IsBlock (b ∷ b
 same_first [] c bs cs h i e = grind (arith, All-head)
 same_first (x ∷ b) [] bs cs h i e = grind (arith, All-head)
 same_first (x ∷ b) (y ∷ c) bs cs h i e =
+    -- both are the first 254 bytes before the first zero of the same message (`e`)
     let bytes : b ≡ c = first_bytes x b bs 254 h refl ∙ ap (λ m. take 254 (head m)) e ∙ sym (first_bytes y c cs 254 i refl) in
     grind (arith, All-head)
 
@@ -72,7 +73,9 @@ then_lone b d ds h e =
     -- the joint of b and the message of the other blocks have no byte
     let rest : [] ≡ joint b ++ message_of (d ∷ ds) = append_cancel_left (bytes_of b) [] _ (grind (arith, append-nil, append_assoc)) in
     elim (cases_Bool (is_full b)) [
+      -- b is full, so its joint is empty, and the other blocks stand for the empty message
       | inl full ↦ (full, empty_message d ds (All-tail IsBlock b (d ∷ ds) h) (grind arith))
+      -- b isn't full, so its joint is a zero, but the joint has no byte
       | inr open' ↦ grind arith
     ]
 
@@ -87,13 +90,16 @@ same_blocks [] cs some some' each each' shorter same = absurd (some refl)
 same_blocks (b ∷ bs) [] some some' each each' shorter same = absurd (some' refl)
 same_blocks (b ∷ []) (c ∷ []) some some' each each' shorter same = inl (ap (λ l. l ∷ []) (same_first b c [] [] each each' same))
 same_blocks (b ∷ []) (c ∷ d ∷ ds) some some' each each' shorter same =
+    -- the first blocks are equal, so cs would end in a full block and the lone block (`lone`), which `shorter` excludes
     let lone = then_lone c d ds each' (ap bytes_of (sym (same_first b c [] (d ∷ ds) each each' same)) ∙ same) in
     absurd (shorter [] c lone.0 (ap (λ l. c ∷ l) lone.1))
 same_blocks (b ∷ d ∷ ds) (c ∷ []) some some' each each' shorter same =
+    -- the first blocks are equal, so bs are this block, which is full, and the lone block (`lone`)
     let first = same_first b c (d ∷ ds) [] each each' same in
     let lone = then_lone b d ds each (grind arith) in
     inr ([], b, lone.0, ap (λ l. l ∷ []) (sym first), ap (λ l. b ∷ l) lone.1)
 same_blocks (b ∷ d ∷ ds) (c ∷ k ∷ ks) some some' each each' shorter same =
+    -- the first blocks are equal (`first`), so the other blocks stand for the same message too (`rest`): by induction
     let first = same_first b c (d ∷ ds) (k ∷ ks) each each' same in
     let rest : message_of (d ∷ ds) ≡ message_of (k ∷ ks) = grind (arith, append_cancel_left) in
     elim (same_blocks (d ∷ ds) (k ∷ ks) (λ z. cc) (λ z. cc) (All-tail IsBlock b (d ∷ ds) each) (All-tail IsBlock c (k ∷ ks) each') (IsShorter-tail c (k ∷ ks) shorter) rest) [
@@ -112,6 +118,7 @@ one_encoded f g m e d =
     let gr = d.reads.frame in
     elim (same_blocks _ _ fr.some gr.some fr.each gr.each (IsEncodedFrame-shorter g m d) (grind arith)) [
       | inl same ↦ grind arith
+      -- the first frame would end in a full block and the lone block, but an encoded frame doesn't
       | inr (front, block, full, is, longer) ↦ absurd (IsEncodedFrame-shorter f m e front block full longer)
     ]
 
@@ -119,6 +126,7 @@ one_encoded f g m e d =
 pub length-encoded : (f m : List ℕ) → IsEncodedFrame f m → length f ≡ encoded_len m
 length-encoded f m e =
     let r = e.reads in
+    -- `end` has the last block of the frame; `len-blocks` counts the blocks before it and then its bytes
     let end = shorter_end r.blocks r.frame.some r.frame.each (IsEncodedFrame-shorter f m e) in
     grind (arith, len-blocks, concat-push, encoded_len-short, length-append)
 

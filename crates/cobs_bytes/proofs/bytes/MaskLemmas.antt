@@ -37,6 +37,7 @@ put_is dest bytes at n l room = grind (arith, put_chunk_is, drop-drop)
 pub zeros_by_lanes : (source : List ℕ) (at n : ℕ) → at + n ≤ length source → n ≤ 64
     → mask_l (map (top 7) (zip2 (λ a b. cond (eqb a b) (2 ^ 8 - 1) 0) (take n (drop at source)) (replicate n 0))) % 2 ^ 64 ≡ zero_mask (take n (drop at source))
 zeros_by_lanes source at n room few =
+    -- `bitmask_splat` gives the mask of the test "is 0" for each byte, which is `zero_mask` (`zero_mask-lanes`)
     bitmask_splat w8 eqb (take n (drop at source)) n 0 (length-chunk at n source room) few
     ∙ zero_mask-lanes (take n (drop at source))
 
@@ -127,6 +128,7 @@ and-step a b x y la lb = same_from_bits (bit_and (a + 2 * x) (b + 2 * y)) (min a
 less-odd : (m z : ℕ) → m ≡ 1 + 2 * z → bit_and m (m - 1) ≡ 0 + 2 * z
 less-odd m z is =
     let less : m - 1 ≡ 0 + 2 * z = omega arith in
+    -- m is 1 + 2 * z and m - 1 is 0 + 2 * z: their lowest bits give 0, and their other bits are both z (`and-step`)
     ap (bit_and m) less ∙ ap (λ k. bit_and k (0 + 2 * z)) is ∙ and-step 1 0 z z (omega arith) (omega arith) ∙ omega (arith, and_self z)
 
 -- for an even number 2 * z, the lowest set bit is removed from z
@@ -145,12 +147,15 @@ mask-and (b ∷ bytes) some =
       -- the first byte is the first zero
       | inl is ↦ (let here = set_if b is in
           let none : nonzero_len (b ∷ bytes) ≡ 0 = ap (λ t. cond (not t) (1 + nonzero_len bytes) 0) (eq-eqb b 0 is) in
+          -- the mask is odd, so it loses its bit 0 (`less-odd`); the first zero has index 0 (`none`)
           less-odd (zero_mask (b ∷ bytes)) (zero_mask bytes) (omega arith) ∙ ap (λ k. mask_behind (k + 1) (drop (k + 1) (b ∷ bytes))) (sym none))
       -- the first byte isn't 0, so the first zero is among the other bytes; `more` says that its index is one higher in
       -- `b ∷ bytes`
       | inr other ↦ (let here = clear_if b other in
           let more : suc (nonzero_len bytes + 1) ≡ nonzero_len (b ∷ bytes) + 1 = omega (arith, ap (λ t. cond (not t) (1 + nonzero_len bytes) 0) (ne_eqb b 0 other)) in
           let rest : zero_mask bytes ≢ 0 = λ e. some (omega arith) in
+          -- the mask is twice the mask of the other bytes, which loses its lowest bit by induction; `mask_behind-more`
+          -- counts one nonzero byte more before the bytes that are left
           less-even (zero_mask (b ∷ bytes)) (zero_mask bytes) rest (omega arith) ∙ ap (λ m. 2 * m) (mask-and bytes rest)
           ∙ sym (mask_behind-more (nonzero_len bytes + 1) (drop (nonzero_len bytes + 1) bytes)) ∙ ap (λ k. mask_behind k (drop k (b ∷ bytes))) more)
     ]

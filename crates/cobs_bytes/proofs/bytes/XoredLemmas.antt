@@ -68,6 +68,7 @@ module _ (source dest : List ℕ) (s n : ℕ) (long : n ≤ length source) (shor
   parts-nonzero none =
       -- the number of XORed bytes, which the tactics below need
       let long' = coded-long in
+      -- `clear`: the masks of both parts are 0, so neither part has a zero, and `more-nonzero` joins them
       let clear = or-none _ _ _ _ (mask-is source s n 0 small (omega arith)) (mask-is source s n at small (omega arith)) none in
       subst HasNoZero whole
       (more-nonzero coded n at n (omega arith) (omega arith) (omega arith) (zero_mask-none (take n coded) clear.0) (zero_mask-none (take n (drop at coded)) clear.1))
@@ -77,6 +78,7 @@ module _ (source dest : List ℕ) (s n : ℕ) (long : n ≤ length source) (shor
   parts-clear nz =
       -- the number of XORed bytes, which the tactics below need
       let long' = coded-long in
+      -- `none`: the mask of a part, wherever it begins, is 0, because its bytes are bytes of the XORed source
       let none : (i : ℕ) → i + n ≤ length source → mask source s n i ≡ 0 = λ i inside. mask-is source s n i small inside ∙ zero_mask-clear (take n (drop i coded)) (All-take (λ b. b ≢ 0) n (drop i coded) (All-drop (λ b. b ≢ 0) i coded nz)) in
       grind (arith, mask, at)
 
@@ -85,6 +87,8 @@ module _ (source dest : List ℕ) (s n : ℕ) (long : n ≤ length source) (shor
   parts-copied =
       -- the number of XORed bytes, which the tactics below need
       let long' = coded-long in
+      -- each of the two vectors is a part of the XORed source (`part-is`); stored one after another, they are one copy
+      -- of all its bytes (`two-copied`)
       ap (λ x. put_chunk at (put_chunk 0 dest x) (part source s n at)) (part-is source s n 0 (omega arith))
       ∙ ap (put_chunk at (put_chunk 0 dest (take n coded))) (part-is source s n at (omega arith))
       ∙ two-copied coded dest 0 0 (length source) n at at (length source) (omega arith) (omega arith) long short (omega arith) (omega arith) (omega arith)

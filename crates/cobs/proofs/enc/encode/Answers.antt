@@ -8,6 +8,7 @@ use Rattle.std.proofs.lemmas.Grind.{common_steps}
 
 -- the frame of a message of one window
 pub returns-then-source-le-WINDOW-clause-frame : goal.returns-then-source-le-WINDOW-clause-frame
+-- the encoder has taken the source, so `close` makes its frame
 returns-then-source-le-WINDOW-clause-frame c = c.close.ensures.frame c.args.source.now (start-after c.args.dest.now _ c.new.ensures.start (omega arith) c.append_short-encoder.ensures)
 
 -- the length of this frame

@@ -25,6 +25,7 @@ pub returns-clause-frame : goal.returns-clause-frame
 returns-clause-frame c =
     let coded : List ℕ = c.encode-len.new.dest in
     let m : List ℕ = c.args.source.now in
+    -- `encode` states the frame with its result in place of the length; `len-is` says that they are equal
     frame_for c.args.sentinel _ coded c.xor_bytes.new.bytes m (omega arith) c.xor_bytes.ensures.changed
     (rw (len-is (goal.at.returns-clause-frame c).After-xor_bytes) at c.encode-len.ensures.frame)
 
@@ -34,5 +35,6 @@ returns-clause-rest c =
     let coded : List ℕ = c.encode-len.new.dest in
     let n : ℕ = length c.args.source.now + 1 in
     let len : length c.xor_bytes.new.bytes ≡ n = grind (arith, length-take-le) in
+    -- after the changed bytes, which are n, come the bytes of `encode` from n on
     drop-append-drop n coded c.xor_bytes.new.bytes n (omega arith) len
     ∙ (rw (len-is (goal.at.returns-clause-rest c).After-xor_bytes) at c.encode-len.ensures.rest)

@@ -14,7 +14,9 @@ returns-then-is_empty-clause-frame c =
 -- the frame of the source, its length (`start-len`: it is `encoded_len` of the source), and the bytes after it
 pub returns : goal.returns
 returns c = record {
+  -- the encoder has taken the source (`start-after`), so `close` makes the frame of the source
   frame = c.close-2.ensures.frame c.args.source.now (start-after c.args.dest.now _ c.new-2.ensures.start (omega arith) c.append-encoder.ensures);
   len = c.close-2.ensures.end ∙ start-len c.args.dest.now _ c.new-2.ensures.start (omega arith) c.append-encoder.ensures;
+  -- `close` leaves the bytes after the frame as `append` left them, and `append` leaves them as they were (`all-rest`)
   rest = c.close-2.ensures.rest ∙ (rw c.close-2.ensures.end (all-rest c.append-encoder.ensures));
 }

@@ -40,6 +40,7 @@ module _ {bytes : List ℕ} {zeros : ℕ} (w : Window bytes zeros) (some : zeros
 
   -- no byte before it is a zero
   before : HasNoZero (take first bytes)
+  -- these bytes are also the first ones of the window, where the lowest bit of the mask says that they aren't zeros
   before = rw (← take-take first 32 bytes (omega (arith, within))) (grind (arith, clear_front, long))
 
   -- the byte at this index is a zero
@@ -66,6 +67,7 @@ module _ (c : After-zeros_at-later) where
   -- if k bytes from `at` on aren't zeros, no byte before their end is a zero
   both : (k : ℕ) → HasNoZero (take k (drop at source)) → HasNoZero (take (at + k) source)
   both k after =
+      -- the bytes before `at` are in the first window, which has no zero (`none`)
       let none = zero_mask-none (take 32 source) (grind arith) in
       let front = rw (take-take at 32 source (omega arith)) at (All-take (λ b. b ≢ 0) at (take 32 source) none) in
       rw (take-add at k source) (All-append (λ b. b ≢ 0) _ _ front after)
@@ -103,7 +105,9 @@ returns-then-later-ne0 c =
     record {
       within = omega arith;
       near = λ _. omega arith;
+      -- no byte before `at` is a zero, and none from `at` on before the window's first zero
       before = λ _. both after _ (before w some);
+      -- index i of the window is index `at` + i of the source
       stop = λ _. sym (grind (arith, get_or-drop)) ∙ stop w some;
     }
 
@@ -116,7 +120,9 @@ pub returns-then-source-eq0-2-clause-before : goal.returns-then-source-eq0-2-cla
 returns-then-source-eq0-2-clause-before c _ =
     let more = wide_more (goal.at.returns-then-source-eq0-2-clause-before c).After-zeros_at-later c.if-later-ne0.false in
     elim c.else-source-gt-WIDE_WINDOW.branch [
+      -- the source has a 65th byte, which isn't a zero
       | goal.else-source-gt-WIDE_WINDOW-via-then-source-gt-WIDE_WINDOW+else-source-eq0 w ↦ more w.if-source-gt-WIDE_WINDOW.true w.if-source-eq0.false
+      -- the source is too short for this result
       | goal.else-source-gt-WIDE_WINDOW-via-else-source-gt-WIDE_WINDOW w ↦ grind arith
     ]
 
@@ -125,9 +131,11 @@ pub returns-clause-before : goal.returns-clause-before
 returns-clause-before c short =
     let after = (goal.at.returns-clause-before c).After-zeros_at-later in
     elim c.else-source-gt-WIDE_WINDOW.branch [
+      -- the source has 65 bytes, and the last one was tested alone
       | goal.else-source-gt-WIDE_WINDOW-via-then-source-gt-WIDE_WINDOW+else-source-eq0 w ↦
           let last : 65 ≡ length c.args.source.now = omega arith in
           rw (← last) (wide_more after c.if-later-ne0.false w.if-source-gt-WIDE_WINDOW.true w.if-source-eq0.false)
+      -- the source ends with the second window
       | goal.else-source-gt-WIDE_WINDOW-via-else-source-gt-WIDE_WINDOW w ↦
           let all : c.min-at.result + 32 ≡ length c.args.source.now = omega arith in
           rw (← all) (windows after c.if-later-ne0.false)

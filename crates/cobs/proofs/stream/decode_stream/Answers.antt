@@ -32,6 +32,7 @@ returns-in_err-push-clause-out_of_memory g c = grind (arith, DecoderAfter-idle)
 pub by_piece-preserved : goal.by_piece-preserved
 by_piece-preserved g c = record {
   within = grind arith;
+  -- the list grew by the outcome of this piece, which is read from the buffer as it was at the piece's end
   so_far = rw (c.in_ok-push.ensures.items, map_push outcome_in c.by_piece.outcomes.items c.in_ok-frame_outcome.field-0, c.in_ok-frame_outcome.ensures, c.buffer.ensures.value)
       (takes-piece _ _ _ _ c.by_piece.invariant.so_far c.in-Some.ensures.takes);
   same_loan = grind arith;

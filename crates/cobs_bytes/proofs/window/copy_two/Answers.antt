@@ -9,6 +9,8 @@ use Rattle.cobs_bytes.proofs.window.copy_two.Goals as goal
 pub returns-clause-copied : goal.returns-clause-copied
 returns-clause-copied g c =
     let source : List ℕ = c.args.source.now in
+    -- `two-copied` states this for the first `length source` bytes of the source, which are the whole source
+    -- (`take_all`)
     two-copied source c.args.dest.now 0 c.args.at (length source) g.row.N _ _ (c.args.at + length source) (omega arith) c.requires.room c.requires.some c.requires.few (omega arith) (omega arith) refl
     ∙ ap (λ x. take c.args.at c.args.dest.now ++ (x ++ drop (c.args.at + length source) c.args.dest.now)) (take_all (length source) source (omega arith))
 

@@ -20,5 +20,7 @@ returns c is =
     -- the 32 bytes from index `at` on
     let here : List ℕ = take 32 (drop c.args.at c.args.bytes.now) in
     let long : length here ≡ 32 = length-chunk c.args.at 32 c.args.bytes.now c.requires in
+    -- `mask`: the mask that the comparison returns is that of the bytes that differ from `byte`; the test says that it
+    -- is 0
     let mask = bitmask_splat w8 (λ a b. not (eqb a b)) here 32 c.args.byte long (omega arith) in
     all_alike c.args.byte here (sym mask ∙ eqb-true _ 0 is) ∙ ap (λ k. replicate k c.args.byte) long

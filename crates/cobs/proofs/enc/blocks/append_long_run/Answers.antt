@@ -35,7 +35,9 @@ module _ (c : After-copy_from_slice) where
       let i = c.by_block.invariant in
       let place = i.taken.place in
       let long = length-drop c.by_block.read c.args.source.now in
+      -- `reaches-start` has index + code in place of `next`; `at` says that they are equal
       let at : c.by_block.index + (c.by_block.next - c.by_block.index) ≡ c.by_block.next = omega arith in
+      -- `nonzero`: the bytes of the part are bytes of the run, so none of them is a zero
       let nonzero = part-nonzero c.by_block.read c.min-len.result c.args.run c.args.source.now c.requires.run.nonzero (omega arith) in
       slice-joined (rw at at (reaches-start {source = left} {old = c.by_block.dest} {r = reached} (omega arith) place.some place.not_full)) nonzero (omega arith) (omega arith) (omega arith) (omega arith) (omega arith) (omega arith) c.copy_from_slice.ensures.after
 
@@ -48,6 +50,7 @@ by_block-preserved c =
       within = omega arith;
       ordered = omega arith;
       short = omega arith;
+      -- the steps so far, and then this step (`front-next`), which `front-open` states
       taken = front-next c.by_block.read refl c.by_block.invariant.taken c.min-len.result (front-open (omega arith) s (omega arith) (omega arith) refl);
     }
 
@@ -59,6 +62,7 @@ by_block-preserved-then-next-index c =
       within = omega arith;
       ordered = omega arith;
       short = omega arith;
+      -- the steps so far, and then this step (`front-next`), which `front-filled` states
       taken = front-next c.by_block.read refl c.by_block.invariant.taken c.min-len.result (front-filled (omega arith) c.if-next-index.true s (omega arith) refl);
     }
 
@@ -70,5 +74,6 @@ returns-clause-taken c =
     let t = i.taken in
     let zero : get_or left 0 0 ≡ 0 = grind (arith, drop_more) in
     let long = length-drop c.by_block.read c.args.source.now in
+    -- `byte-zero` closes the block; the code of the next block, which `encoder_at` gets as a difference, is 1 (`one`)
     let one : c.by_block.next + 1 - c.by_block.next ≡ 1 = omega arith in
     front-next c.by_block.read refl t 1 (byte-zero t.place (omega arith) (omega arith) (omega arith) zero refl (rw one at c.encoder_at-2.ensures))

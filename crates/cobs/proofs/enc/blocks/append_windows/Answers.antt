@@ -85,6 +85,7 @@ row c w =
     let code : c.by_window.next + lowest c.copy_at-window.result - c.by_window.index ≡ c.by_window.next - c.by_window.index = omega arith in
     let written = rw (take_rest c.args.source.now c.by_window.read, code) at c.write_codes_of_zeros-zeros.ensures in
     let some = written.some (omega arith) zeros in
+    -- `row-taken`: the n zeros close blocks, whose codes are the n ones that were written
     (row-taken (w.copied.reaches) w.short fits c.write_codes_of_zeros-zeros.result some (omega arith) written.zeros written.written, some, omega arith)
 
 -- a window that has only zeros begins a row of zeros, which is taken
@@ -103,6 +104,7 @@ by_window-smaller-then-window-eq-ALL_ZEROS c =
 -- after `mark_zeros`, no zero is left in the mask, and the window is taken
 pub by_window-preserved : goal.by_window-preserved
 by_window-preserved c =
+    -- `coded` describes the window for `mark_zeros`, which leaves the mask 0, so `masked-end` applies
     let taken = masked-end (c.mark_zeros-index.ensures _ _ _ (coded (goal.at.by_window-preserved c).After-copy_at-window c.if-window-eq0.false (omega arith))) refl in
     grind arith
 
@@ -121,6 +123,8 @@ returns-in-by_window c =
     let long = length-set c.copy_at-window.new.dest c.by_window.index 255 in
     record {
       within = omega arith;
+      -- `filled`: the code 255 closes the block; bytes are left after it, so `front-taken` allows a frame that ends in
+      -- it
       taken = front-taken (omega arith) (filled w none (omega arith)) (omega arith) (grind arith) (omega arith) c.encoder_at.ensures;
     }
 

@@ -52,9 +52,12 @@ module _ {old source slice : List ℕ} {pos index next : ℕ} (some : 0 < length
       let end = whole-fits old source some in
       let r' : Reaches (start old source) slice (length source) index next IsNotFull = rw (← last) r in
       elim (cases_lt next (index + 255)) [
+        -- `front-open` and `start-after`: the encoder has taken the source; then the code of the open block completes
+        -- the frame
         | inl open' ↦ (let sum : index + (next - index) ≡ next = omega arith in
             let after = start-after old _ refl some (front-open (omega arith) r' open' sum refl) in
             rw sum at (closed-open after refl))
+        -- `front-filled` sets the code 255, so the frame that the encoder has is already complete
         | inr full ↦ (let code : next - index ≡ 255 = omega arith in
             let after = start-after old _ refl some (front-filled (omega arith) (omega arith) r' refl refl) in
             rw code (closed-full after refl))
@@ -71,8 +74,10 @@ opened c =
     let r = c.by_part.invariant in
     let fits = whole-fits c.args.dest.now c.args.source.now (omega arith) in
     elim c.if-next-index-eq-FULL_CODE.branch [
+      -- the open block was full, and its code 255 closed it
       | goal.then-next-index-eq-FULL_CODE w ↦ rw (w.dest-is, w.index-is, w.next-is)
           (omega arith, Reaches-full r (omega arith) (omega arith) (omega arith) (grind arith))
+      -- the open block isn't full, so nothing changed
       | goal.else-next-index-eq-FULL_CODE w ↦ grind arith
     ]
 
@@ -96,11 +101,13 @@ by_byte-preserved c =
       -- a zero closes the open block
       | goal.then-byte-eq0 w ↦ rw (w.dest-is, w.index-is) (record {
         open' = omega arith;
+        -- `Reaches-zero` has read + i + 1 in place of read + (i + 1), and `Reaches-at` replaces this number
         reaches = Reaches-at refl (omega arith) refl refl (λ full p lt. p) (Reaches-zero i.reaches (omega arith) (omega arith) (grind arith) (omega arith) refl);
       })
       -- any other byte joins the open block
       | goal.else-byte-eq0 w ↦ rw (w.dest-is, w.index-is) (record {
         open' = omega arith;
+        -- `joined` has read + i + 1 in place of read + (i + 1), and `Reaches-at` replaces this number
         reaches = Reaches-at refl (omega arith) refl refl (λ full p lt. p) (joined byte (omega arith) i.reaches is w.if-byte-eq0.false (omega arith) (omega arith));
       })
     ]

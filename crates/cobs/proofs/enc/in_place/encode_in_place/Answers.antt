@@ -27,6 +27,7 @@ there a k x y le e =
 -- the frame with one byte more is within the slice
 fits-one : {slice m : List ℕ} {r : Reached} (byte n : ℕ) → CobsEncoderAfter slice r m → length m < n → max_encoded_len n ≤ length slice → end_after r (byte ∷ []) ≤ length slice
 fits-one {m = m} byte n h more fits =
+    -- the frame of a message of at most n bytes has at most `max_encoded_len n` bytes, which are within the slice
     omega (arith, encoded_len-le (m ++ byte ∷ []), length_push m byte, after-end h (byte ∷ []))
 
 -- at the start, the encoder has taken no byte of the message
@@ -39,6 +40,7 @@ append_byte-requires c =
     let i = c.by_byte.invariant in
     let byte : ℕ = get_or c.by_byte.buffer (c.max_encoding_overhead-before.result + c.by_byte.taken) 0 in
     let long = length-take c.by_byte.taken (drop c.max_encoding_overhead-before.result c.args.buffer.now) in
+    -- `room`: there is room for the byte, because the frame with it is within the slice (`fits-one`)
     let room = room-only c.by_byte.encoder _ byte
     (record { place = after-place i.after; fits = fits-one byte c.args.len i.after (omega arith) (omega arith) }) in
     grind arith
@@ -79,6 +81,7 @@ returns c =
     record {
       frame = frame;
       no_sentinel = encoded_nonzero frame;
+      -- `close_block` returns the end of the frame, which is `encoded_len` of m (`end-is`)
       len = c.close_block.ensures.end ∙ sym (end-is after);
       rest = grind arith;
     }

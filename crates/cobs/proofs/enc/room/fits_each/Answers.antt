@@ -23,6 +23,7 @@ by_byte-preserved c =
     × (open_len (c.if-taken-eq-FULL_BLOCK_BYTES.taken + 1) (drop c.by_byte.i c.args.bytes.now) + c.args.taken + c.args.spare + c.by_byte.i ≡ open_len (c.args.taken + 1) c.args.bytes.now + c.if-taken-eq-FULL_BLOCK_BYTES.taken + c.if-taken-eq-FULL_BLOCK_BYTES.left) =
     elim c.if-taken-eq-FULL_BLOCK_BYTES.branch [
       | goal.then-taken-eq-FULL_BLOCK_BYTES+else-left-eq0 w ↦
+          -- the open block was full, so it was closed (`full`), which took one of the spare bytes
           let full = len-full c.args.bytes.now c.by_byte.i next (c.by_byte.taken + 1) (omega arith) in
           rw (w.left-is, w.taken-is) (omega arith, omega arith, omega arith)
       | goal.else-taken-eq-FULL_BLOCK_BYTES w ↦ grind arith

@@ -28,6 +28,7 @@ returns-in-None-clause-none g c = grind (arith, HasTaken-any)
 -- a piece ended: the facts of `ReportsFirst`, if the decoder had been fed p before
 pub returns-in-Some-clause-first : goal.returns-in-Some-clause-first
 returns-in-Some-clause-first g c = λ p h.
+    -- `t`: how the decoder took the bytes up to the piece's end, for a decoder in any state
     let t = c.in-Some.ensures.takes in
     record {
       outcome = outcome_at c.in-Some.end _;
@@ -50,6 +51,7 @@ pub invariant_of-self-clause-has_taken : goal.invariant_of-self-clause-has_taken
 invariant_of-self-clause-has_taken g c = ∥∥₁_map c.args.self.now.has_taken (λ w. (
   _,
   record {
+    -- the decoder had been fed some front (`w.0`), and has now been fed its unended bytes after these bytes too
     after = c.in-None.ensures.takes.takes.after w.0 w.1.after;
     flag = grind arith;
   },

@@ -33,6 +33,8 @@ by_read-preserved g c =
     let emptied : r.start ≡ r.end = grind arith in
     record {
       emptied = emptied;
+      -- for each front q that the decoder had been fed, no piece ended in the bytes of this read (`t`), so one more
+      -- read is made
       going = Going-push _ _ (grind arith) c.by_read.invariant.going
           c.in-Some-read_some.ensures.step e.len (λ q b.
           let t = e.none q b in
@@ -46,6 +48,7 @@ returns-in-Some-feed_through_end-clause-next g c =
     let n = c.in-Some-read_some.n in
     let chunk = c.read_some.new.chunk in
     let e = c.in-Some-feed_through_end.ensures in
+    -- `e`: the decoder was fed the bytes up to the piece's end; `front_rest`: the other bytes of the read are kept
     ReadsNext-piece _ _ (omega arith) c.by_read.invariant.going c.in-Some-read_some.ensures.step e.len
     (grind (arith, front_rest)) e.idle
 

@@ -5,6 +5,7 @@ use Rattle.cobs.proofs.enc.unbuffered.UnbufferedEncoder.append_byte.Goals as goa
 
 pub returns-clause-taken : goal.returns-clause-taken
 returns-clause-taken c = λ behind fits.
+    -- the `requires` say that the state is possible, as the three lemmas need
     let place = is-place c.args.self.now _ c.requires.open_block c.requires.room in
     elim c.if-byte-eq0.branch [
       -- a zero closes the open block

@@ -24,6 +24,8 @@ by_byte-preserved c =
     let left : List ℕ = drop c.by_byte.i source in
     -- the first byte of those that are left (`left`) is byte i of the source
     let is : get_or left 0 0 ≡ get_or source c.by_byte.i 0 = get_or-drop c.by_byte.i source 0 0 ∙ ap (λ n. get_or source n 0) (omega arith) in
+    -- `some`, `fits` and `at` are the premises of `byte-fills`, `byte-joins` and `byte-zero` for the bytes that are
+    -- left
     let some : 0 < length left = omega (arith, length-drop c.by_byte.i source) in
     let fits : end_after (place_at c.by_byte.index (c.by_byte.next - c.by_byte.index) i.taken.0) left ≤ length c.by_byte.dest = omega arith in
     let at : c.by_byte.next ≡ c.by_byte.index + (c.by_byte.next - c.by_byte.index) = omega arith in
@@ -37,6 +39,8 @@ by_byte-preserved c =
             ordered = omega arith;
             short = omega arith;
             left = omega arith;
+            -- the frame now ends in a full block (`true`); the byte isn't a zero, as the test said of byte i of the
+            -- source (`is`)
             taken = (true, λ lt. grind arith, next c.by_byte.i t (grind arith) (byte-fills {source = left} t.place fits some at (λ e. a.if-byte-ne0.true (sym is ∙ e)) (omega arith) (grind arith)));
           }
         ]

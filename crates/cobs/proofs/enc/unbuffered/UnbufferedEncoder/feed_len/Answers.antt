@@ -21,6 +21,7 @@ returns-then-code-gt-FULL_BLOCK_BYTES-clause-room c = (λ t. cc, λ h. absurd (n
 -- the byte is refused, and the frame with the byte doesn't fit the slice
 pub returns-then-code-gt-FULL_BLOCK_BYTES-clause-fits : goal.returns-then-code-gt-FULL_BLOCK_BYTES-clause-fits
 returns-then-code-gt-FULL_BLOCK_BYTES-clause-fits c = λ m h.
+    -- if the frame fitted, its end (`end`) would be within the slice, so there would be room for the byte
     let end = after-end h (c.args.byte ∷ []) in
     (λ t. cc, λ le. absurd (none c (record { place = after-place h; fits = omega arith })))
 

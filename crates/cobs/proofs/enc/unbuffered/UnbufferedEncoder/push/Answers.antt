@@ -23,6 +23,7 @@ append_short-requires-clause-fits c = grind (arith, short_room)
 -- `append_short` has taken the bytes, so the frame fits
 pub returns-then-self-bytes-clause-fits : goal.returns-then-self-bytes-clause-fits
 returns-then-self-bytes-clause-fits c = λ m h.
+    -- `e` and `end`: the frame of all bytes ends where the encoder's progress ends, which is within the slice
     let e = after-end h c.args.bytes.now in
     let end = all-end c.append_short.ensures in
     (λ t. omega arith, λ le. refl)

@@ -28,6 +28,7 @@ pub returns-then-not-has_room-clause-fits : goal.returns-then-not-has_room-claus
 returns-then-not-has_room-clause-fits c = λ m h.
     let e = after-end h c.args.bytes.now in
     let some : length c.args.bytes.now ≢ 0 = grind arith in
+    -- `end`: the index at which the frame would end is the one that `has_room` was asked about
     let end = end-with c.args.self.now c.args.bytes.now (place-short c.args.self.now _ (after-place h)) (omega arith) in
     (λ t. cc, λ le. cc (c.has_room.ensures.fits.1 (omega arith)))
 
