@@ -50,6 +50,7 @@ impl UnbufferedDecoder {
         ensures within { result ≤ len }
         ensures full { self.now.joint ≡ 0 → result ≤ self.now.missing }
         ensures some { 0 < len → (self.now.missing ≡ 0 → self.now.joint ≢ 0) → 0 < result }
+        ensures all { (self.now.joint ≡ 0 → len ≤ self.now.missing) → result ≡ len }
     {
         if self.joint == 0 {
             len.min(self.missing as usize)
@@ -198,7 +199,7 @@ impl UnbufferedDecoder {
     }
 
     /// Decodes `bytes` as one span, or decodes nothing. Returns whether it decoded the bytes; if it returns false,
-    /// nothing has changed. The function decodes the bytes only if all these conditions hold:
+    /// nothing has changed. The function decodes the bytes exactly if all these conditions hold:
     ///
     /// - A piece has begun, and isn't too long for the buffer.
     /// - There are 1 to 31 bytes, and none of them is a zero.
@@ -206,6 +207,9 @@ impl UnbufferedDecoder {
     /// - `dest` has room for the output of the bytes.
     #[inline(always)]
     pub(crate) fn take_short(&mut self, dest: &mut [u8], bytes: &[u8]) -> bool
+        ensures taken { self.old.too_long ≡ 0 → (0 < length bytes.now) × (length bytes.now < 32) → HasNoZero bytes.now
+            → (self.old.joint ≡ 0 → length bytes.now ≤ self.old.missing)
+            → self.old.written + length bytes.now ≤ length dest.old → IsTrue result }
         ensures fed { IsTrue result → FeedsQuietly dest.old (phase_of self.old) bytes.now dest.new (phase_of self.new) }
         ensures kept { result ≡ false → (dest.new ≡ dest.old) × (self.new ≡ self.old) }
     {
@@ -225,13 +229,14 @@ impl UnbufferedDecoder {
     }
 
     /// Decodes `bytes`, the first bytes of a piece, and returns true, or decodes nothing and returns false. The caller
-    /// ensures that `bytes` has at most 65 bytes, and that none of them is a zero. The function decodes the bytes only
-    /// if there are at least 2 bytes, and if `dest` has room for their output.
+    /// ensures that `bytes` has at most 65 bytes, and that none of them is a zero. The function decodes the bytes
+    /// exactly if there are at least 2 bytes, and `dest` has room for their output, which is one byte shorter.
     #[inline(always)]
     pub(crate) fn take_front(&mut self, dest: &mut [u8], bytes: &[u8]) -> bool
         requires idle { phase_of self.old ≡ Idle }
         requires few { length bytes.now ≤ 65 }
         requires nonzero { HasNoZero bytes.now }
+        ensures taken { 2 ≤ length bytes.now → length bytes.now ≤ length dest.old + 1 → IsTrue result }
         ensures fed { IsTrue result → FeedsQuietly dest.old (phase_of self.old) bytes.now dest.new (phase_of self.new) }
         ensures begun { IsTrue result → (self.new.too_long ≡ 0) × (0 < self.new.written) }
         ensures kept { result ≡ false → (dest.new ≡ dest.old) × (self.new ≡ self.old) }
