@@ -127,6 +127,7 @@ module _ (counted : (f m : List ℕ) → IsEncodedFrame f m → length f ≡ enc
         encoded = h.encoded;
         follows = h.follows;
         fits = omega (arith, len, length-take-le last slice within);
+        -- the frame so far lies within the first `last` bytes, so they have the same first bytes as the slice
         begins = (h.begins.0, take-take (length h.frame) last slice (omega arith) ∙ h.begins.1);
         noted = h.noted;
       }

@@ -30,6 +30,7 @@ behind_terminator buffer part last end s len within short behind =
     drop-append-le end part (drop last buffer) (omega arith) ∙ ap (λ (l : List ℕ). l ++ drop last buffer) behind
     ∙ sym (drop-append-le end (take last buffer) (drop last buffer) (omega arith)) ∙ ap (drop end) (take-append-drop last buffer) in
     let next : end + 1 ≡ 1 + end = omega arith in
+    -- s is written before index end + 1, and the bytes from there on are those of `same` without the first one
     drop-set-lt (end + 1) (part ++ drop last buffer) end s (omega arith)
     ∙ sym (drop-drop 1 end (part ++ drop last buffer)) ∙ ap (drop 1) same ∙ drop-drop 1 end buffer
 

@@ -60,5 +60,6 @@ module _ (shorter : (p : List ℕ) → length (output p) ≤ length p) where
   behind-kept t d is within =
       -- the buffer after decoding: the kept output, and then the old bytes after as many bytes
       let kept : List ℕ = kept_output (head t) in
+      -- all of the kept output fits (`take_all`); it has d bytes (`is`), and after them come the old bytes
       ap (λ (x : List ℕ). drop d (x ++ drop (length kept) t)) (take_all (length t) kept (omega (arith, is, within)))
       ∙ ap (λ (k : ℕ). drop k (kept ++ drop (length kept) t)) is ∙ drop-append_seam kept (drop (length kept) t) ∙ ap (λ (k : ℕ). drop k t) (sym is)

@@ -69,6 +69,7 @@ module _ (law : HeadLaw) (buffer : List ℕ) (end s : ℕ) (within : end ≤ len
       -- f consists of these bytes, and `whole` says that its first `length f` bytes are f
       let f : List ℕ = xor_each s (take end buffer) in
       let whole : take (length f) f ≡ f = take_all (length f) f (omega arith) in
+      -- f has no zero (`coded`), and no byte follows it, so the clause `front` says that f is its own head
       sym (law.front f (length f) (omega arith) (subst (λ (x : List ℕ). All (λ b. b ≢ 0) x) (sym whole) (law.coded (take end buffer) s before)) (λ more. absurd (omega arith))) ∙ whole
 
   -- the call consumes the bytes before `end`, and the sentinel after them if there is one
@@ -79,6 +80,7 @@ module _ (law : HeadLaw) (buffer : List ℕ) (end s : ℕ) (within : end ≤ len
   -- buffer
   pub front-result : (end ≡ 0 × length buffer ≡ 0) ⊎ (end ≢ 0) → result_in_place (xor_each s (take end buffer)) ≡ result_in_place (xor_each s buffer)
   front-result some =
+      -- there are as many XORed bytes as bytes, so the case that `same_result` leaves out is that of `some` too
       same_result (xor_each s (take end buffer)) (xor_each s buffer) is_head head_of_front
       (elim some [ inl none ↦ inl (length-map buffer (λ b. bit_xor b s) ∙ none.1) | inr some ↦ inr (λ none. some (sym len ∙ none)) ])
 
@@ -102,4 +104,5 @@ module _ (law : HeadLaw) (buffer : List ℕ) (end s : ℕ) (within : end ≤ len
 
     -- the buffer stays the same; this is the buffer that `DecodesInPlaceFor` states
     pub sentinel-buffer : buffer ≡ (let frame = head (xor_each s buffer) in overwritten frame (kept_output frame) ++ drop (length frame) buffer)
+    -- the head is empty (`no_head`), so no byte is overwritten
     sentinel-buffer = nothing_written (kept_output []) buffer ∙ sym (ap (λ (f : List ℕ). overwritten f (kept_output f) ++ drop (length f) buffer) no_head)

@@ -23,12 +23,14 @@ use Rattle.cobs_c.proofs.HeadLemmas.{head-within}
 module _ (source rest : List ℕ) (n : ℕ) (is : rest ≡ drop (leading_zeros source) source) (stop : n < length rest → get_or rest n 0 ≡ 0) where
   -- if n is 0, no byte follows the leading zeros, and the source has no piece
   pub first_none : ((t : List ℕ) → let r = drop (leading_zeros t) t in (0 < length r → get_or r 0 0 ≡ 0) → first_piece t ≡ None) → n ≡ 0 → first_piece source ≡ None
+  -- the clause is about byte 0 of the bytes after the leading zeros; this is the byte at index n of `rest`
   first_none law none = law source (subst (λ (r : List ℕ). 0 < length r → get_or r 0 0 ≡ 0) is (subst (λ (k : ℕ). k < length rest → get_or rest k 0 ≡ 0) none stop))
 
   -- otherwise the first piece of the source is the first n bytes of `rest`
   pub first_some : ((t : List ℕ) (k : ℕ) → let r = drop (leading_zeros t) t in 0 < k → k ≤ length r → HasNoZero (take k r) → (k < length r → get_or r k 0 ≡ 0) → first_piece t ≡ Some (take k r))
       → n ≤ length rest → HasNoZero (take n rest) → 0 < n → first_piece source ≡ Some (take n rest)
   first_some law within before some =
+      -- the clause is about the bytes after the leading zeros, which are `rest` (`is`)
       subst (λ (r : List ℕ). n ≤ length r → HasNoZero (take n r) → (n < length r → get_or r n 0 ≡ 0) → first_piece source ≡ Some (take n r)) (sym is)
       (λ within' before' stop'. law source n some within' before' stop') within before stop
 
@@ -74,6 +76,7 @@ size_of-report parsed (Err error) = refl
 -- if the output of p fits the buffer of n bytes, the status for p isn't TOO_SMALL
 room-enough : (p : List ℕ) (consumed n : ℕ) (size : Result ℕ DecodeError) → length (output p) ≤ n → size ≡ outcome_result (outcome_of p n) → (result_by consumed n size).status ≢ TOO_SMALL
 room-enough p consumed n (Ok size) fits is = λ small. absurd (omega (arith, small))
+-- with the status TOO_SMALL the error would be `TargetBufTooSmall`, and the output longer than n
 room-enough p consumed n (Err error) fits is = λ small. absurd (omega (arith, fits, too_long-output p n (ap Err (sym (too_small-only consumed n error small)) ∙ is)))
 
 -- if p is the first piece of the source, and `size` is the result for the outcome of p, the call that returns this
@@ -104,6 +107,8 @@ module _ (piece : (byte : ℕ) (bytes : List ℕ) → byte ≢ 0 → first_piece
       -- the head of the source is its first piece (`first`), and `size` is the result for its outcome (`same`)
       let p : List ℕ = head source in
       let first = short-first piece source short in
+      -- both sides of `result-some` are reports; `size_of` takes the number of parsed bytes away
       let same = sym (size_of-report parsed size) ∙ ap size_of (is ∙ result-some source p (length message) first) ∙ size_of-report (len_through_piece source p) (outcome_result (outcome_of p (length message))) in
+      -- the bytes up to and including the zero after the piece are the whole source (`short-through`)
       subst (λ (k : ℕ). Decodes source message (result_by k (length message) size) message') (short-through source short)
       (decodes-by source p message message' size first (omega (arith, shorter p, head-within source)) same written)

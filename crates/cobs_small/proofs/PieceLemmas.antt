@@ -91,6 +91,7 @@ module _ (is_found : (t : List ℕ) (n : ℕ) → let rest = drop (leading_zeros
           some = λ q is.
               -- q is the first piece of the source too, so q is p
               let same : p ≡ q = (let k = sym found ∙ is in cc) in
+              -- the count is that of p (`count`), the result is that of the outcome of p (`out`), and p is q (`same`)
               ap (λ (k : ℕ). record { status = TOO_SMALL; consumed = k; length = length message }) count
               ∙ ap (λ (o : Outcome). result_by (len_through_piece source p) (length message) (outcome_result o)) (sym out)
               ∙ ap (λ (x : List ℕ). result_by (len_through_piece source x) (length message) (outcome_result (outcome_of x (length message)))) same;

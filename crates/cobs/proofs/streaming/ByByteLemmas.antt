@@ -32,6 +32,7 @@ pub piece-nothing : (buffer : List ℕ) (phase : Phase) → TakesPiece buffer ph
 piece-nothing buffer phase = record {
   takes = takes-nothing buffer phase;
   ends = tt;
+  -- the last piece is p (`last`), and the buffer begins with the output of p
   holds = λ p h. overwritten-is _ buffer buffer refl (rw (last p h.phased) h.begins) refl;
   untouched = λ p h. refl;
   bound = λ p h. tt;
@@ -73,6 +74,7 @@ module _ {buffer₀ buffer buffer' : List ℕ} {phase₀ phase phase' : Phase} {
     untouched_behind = elim (cases_eq (get_or bytes i 0) 0) [
       -- a zero changes nothing in the buffer; any other byte may change only bytes of the output
       | inl z ↦ grind (arith, last_zero, left_so_far)
+      -- this byte changes nothing after the output with it (`untouched`), which is no shorter than the output before
       | inr nz ↦ rw (last_nonzero nz) (f.untouched _ (grind arith) nz ∙ drop-later _ _ _ _ (output-longer _ (get_or bytes i 0)) left_so_far)
     ]
 
@@ -80,7 +82,9 @@ module _ {buffer₀ buffer buffer' : List ℕ} {phase₀ phase phase' : Phase} {
   begins_behind : (p : List ℕ) → DecoderAfter buffer₀ phase₀ p
       → take (length (output (last_piece (p ++ take (i + 1) bytes)))) buffer' ≡ take (length buffer') (output (last_piece (p ++ take (i + 1) bytes)))
   begins_behind p h = elim (cases_eq (get_or bytes i 0) 0) [
+    -- a zero changes neither the buffer nor the last piece
     | inl z ↦ grind (arith, last_zero)
+    -- the decoder has then been fed the unended bytes and this byte, so the buffer begins with their output
     | inr nz ↦ rw (last_nonzero p h.phased nz) (rw (fed-nonzero _ _ nz) at (f.after _ (t.takes.after p h))).begins
   ]
 
@@ -90,6 +94,7 @@ module _ {buffer₀ buffer buffer' : List ℕ} {phase₀ phase phase' : Phase} {
 
   -- the first i + 1 bytes are fed, and the outcome that this byte reports is the only one
   pub takes_behind : TakesBytes buffer₀ phase₀ (take (i + 1) bytes) (reported_by (get_or bytes i 0) result buffer') buffer' phase'
+  -- the first i bytes, and then one byte more (`TakesBytes-byte`)
   takes_behind = rw (take_more bytes i 0 inside) (takes-more t.takes (TakesBytes-byte f))
 
   -- if this byte ends no piece, no piece has ended in the first i + 1 bytes
@@ -118,6 +123,7 @@ module _ {buffer₀ buffer buffer' : List ℕ} {phase₀ phase phase' : Phase} {
       let fits = rw (f.len ∙ t.takes.len) at e.1 in
       record {
         takes = takes;
+        -- the bytes before the zero, in which no piece has ended
         ends = record {
           front = take i bytes;
           taken = grind (arith, take_more);

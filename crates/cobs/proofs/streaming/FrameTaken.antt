@@ -94,6 +94,7 @@ module _ (buffer buffer' f more : List ℕ) (phase phase' : Phase) (idle : phase
   pub taken-reads : (result : Option (PieceEnd × ℕ)) → TakesPiece buffer phase (f ++ 0 ∷ more) result buffer' phase' → (m : List ℕ) → Reads f m → length m ≤ length buffer
       → (result ≡ Some (ends.Message (length m), length f + 1)) × (take (length m) buffer' ≡ m)
   taken-reads result t m r fits =
+      -- the call reports the outcome of f, which is the message m (`outcome_frame`)
       let (end, is, outcome) = taken-piece result t in
       let within = (rw is at t).within.1 in
       let at = message_at end buffer' m (grind arith) (outcome ∙ outcome_frame f m (length buffer) r fits) in
@@ -101,4 +102,5 @@ module _ (buffer buffer' f more : List ℕ) (phase phase' : Phase) (idle : phase
 
   -- if the call reports a message, f is a frame of the message at the front of the buffer
   pub taken-only : (n count : ℕ) → TakesPiece buffer phase (f ++ 0 ∷ more) (Some (ends.Message n, count)) buffer' phase' → All (λ b. b < 256) f → Reads f (take n buffer')
+  -- by `ended`, the outcome of f is the message at the front of the buffer
   taken-only n count t below = ((outcome_message f (take n buffer') (length buffer) piece below).0 (sym (ended (ends.Message n) count t).1)).0

@@ -59,6 +59,7 @@ module _ {source old new : List ℕ} {phase : Phase} {run : ℕ} (f : FrontFed s
     -- the piece consists of the bytes that were fed, this byte, and `tail`
     split : take run source ++ get_or source run 0 ∷ tail ≡ head source
     split =
+        -- after the fed bytes, the piece goes on with this byte, which isn't a zero, and then with `tail`
         let rest : head (drop run source) ≡ get_or source run 0 ∷ tail = rw (drop_more source run 0 more) (head-cons _ _ other) in
         rw (← rest, ← head-append (take run source) (drop run source) none, take-append-drop run source) refl
 

@@ -42,6 +42,7 @@ module _ (h old new : List ℕ) (inner : UnbufferedDecoder) (tail : ℕ) (nonzer
   -- as many bytes of the last part are missing as the decoder's number `missing` says
   pub missed : missing (last_part (take tail h)) ≡ inner.missing
   missed =
+      -- the fed bytes have no zero, so the decoder's numbers belong to them (`quiet-at`)
       let front : List ℕ = take tail h in
       let q = quiet front old new (phase_of inner) (All-take (λ b. b ≢ 0) tail h nonzero) fed in
       sym (quiet-at old new front (phase_of inner) q inner refl).1
@@ -100,6 +101,7 @@ kept_stop h old new phase k run kept none before inside f over =
     let begins : 0 < length (head front) = rw (head_alone front nonzero) (omega arith) in
     let fed : FrontFed front old new phase run = record { begins = begins; within = omega arith; fed = rw same f } in
     let past = rw (← here) at over in
+    -- `front` has no zero, so it is its own first piece (`head_alone`); its output is too long for the buffer
     let long = rw (head_alone front nonzero) at (over-long fed more other past) in
     let written = rw (head_alone front nonzero) at (over-written fed more other past) in
     grind arith

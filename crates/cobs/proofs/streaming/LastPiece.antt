@@ -57,6 +57,7 @@ unfolding output parts parts_after
 output-end [] tail = (output tail, refl)
 output-end (c ∷ p) [] = grind (arith, append-nil)
 output-end (c ∷ p) (x ∷ tail) =
+    -- the first appended byte adds `one.0` to the output (`output-push`), and the other bytes add `rest.0`
     let one = output-push c p x in
     let rest = output-end (c ∷ p ++ x ∷ []) tail in
     (one.0 ++ rest.0, cc (append_assoc (c ∷ p) (x ∷ []) tail, append_assoc (output (c ∷ p)) one.0 rest.0))

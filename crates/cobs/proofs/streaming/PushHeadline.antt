@@ -85,12 +85,15 @@ module _ (buffer bytes buffer' f m : List ℕ) (phase phase' : Phase) (idle : ph
   -- the zero, each byte returns `Ok(None)`.
   pushed (Err failure) w e = elim (cases_lt (length f) failure.parsed_size) [
     | inl all ↦
+        -- the zero is among the consumed bytes, so their first outcome is that of f, a message (`outcomes-behind`)
         let one = outcomes-behind f [] (length buffer) failure.parsed_size piece.0 piece.1 all in
         absurd (pushed-no_message bytes failure buffer' m one.0 (cc (outcomes (Err failure) w)))
     | inr short ↦
+        -- k is the index of the last consumed byte; it is a byte of f, so it returns `Ok(None)` (`quiet`)
         let k = failure.parsed_size - 1 in
         let some : 0 < failure.parsed_size = w.some (λ e. cc) in
         let quiet = quiet_inside f (length buffer) k piece.1 (outcome_says f (length buffer) e).0 (omega arith) in
+        -- but the push says that this byte returned the error
         let last = rw (eq-eqb (k + 1) failure.parsed_size (omega arith)) at (w.push_returns [] after.phased k (omega arith)) in
         absurd (let e = sym quiet ∙ ap (λ (x : List ℕ). result_at [] x (length buffer) k) (sym is) ∙ last in cc)
   ]

@@ -100,6 +100,7 @@ module _ {buffer₀ buffer buffer' : List ℕ} {phase₀ phase phase' : Phase} {
     push_returns = grind (arith, ends_at, result_here);
     phased = grind arith;
     after = grind arith;
+    -- these two fields are stated for the consumed bytes, which are the first i + 1 bytes (`count`)
     holds = rw (consumed, count) (holds_behind bytes i within s.piece f);
     untouched = rw (consumed, count) (untouched_behind bytes i within s.piece f);
     outcomes = grind arith;
@@ -113,6 +114,7 @@ module _ {buffer₀ buffer buffer' : List ℕ} {phase₀ phase phase' : Phase} {
 
   -- if this byte returns a message of n bytes, the push returns a report with this number
   pub pushed_some : (n : ℕ) → result ≡ Ok (Some n) → PushesBytes buffer₀ phase₀ bytes (Ok (Some (record { parsed_size = i + 1; frame_size = n }))) buffer' phase'
+  -- this byte is a zero (`message_at_zero`), so it reports the outcome that the report stands for
   pushed_some n e = ended (Ok (Some (record { parsed_size = i + 1; frame_size = n }))) refl (sym e)
       (λ p h. rw (e, eq-eqb _ 0 (message_at_zero _ _ _ n (result_here p h.phased ∙ e))) refl) (grind arith)
 
@@ -128,6 +130,7 @@ pushed_none {buffer₀} {buffer} {phase₀} {phase} bytes i all s = grind arith
 -- if the next r bytes are fed quietly, the push continues after them
 pub pushed_fed : {buffer₀ buffer buffer' : List ℕ} {phase₀ phase phase' : Phase} (bytes : List ℕ) (i r : ℕ) → i + r ≤ length bytes → Pushed buffer₀ phase₀ buffer phase bytes i
     → FeedsQuietly buffer phase (take r (drop i bytes)) buffer' phase' → Pushed buffer₀ phase₀ buffer' phase' bytes (i + r)
+-- each byte that returns `Ok(None)` preserves `Pushed` (`Pushed-more`), so all these bytes do (`ran-on`)
 pushed_fed {buffer₀} {phase₀ = phase₀} bytes i r within s f =
     ran-on (λ buffer phase i. Pushed buffer₀ phase₀ buffer phase bytes i) bytes (λ buffer phase i within s quiet. Pushed-more bytes i within s (grind (arith, Feeds-step)) quiet)
     _ _ _ _ i r within s f

@@ -35,6 +35,7 @@ quiet-piece xs old new phase first f = elim (cases_lt (length (head xs)) (length
       let cut = head-cut xs more in
       let one = stream_outcomes-front (head xs) (drop (length (head xs) + 1) xs) (length old) some (head_nonzero xs) in
       absurd cc
+  -- the bytes of xs before its first zero are all bytes of xs
   | inr all ↦ subst HasNoZero (sym (head-front xs) ∙ take_all (length (head xs)) xs all) (head_nonzero xs)
 ]
 
@@ -49,6 +50,7 @@ pub record Quiet (old new : List ℕ) (phase : Phase) (p : List ℕ) : Type 0 wh
 going : (xs buffer new : List ℕ) (phase phase' : Phase) → phase ≢ Overlong → FeedsQuietly buffer phase xs new phase' → phase' ≢ Overlong
 going [] buffer new phase phase' some f = grind arith
 going (x ∷ xs) buffer new phase phase' some f =
+    -- the first byte returned `Ok(None)`, so it didn't make the phase `Overlong`
     going xs (next_buffer buffer phase x) new (next_phase (length buffer) phase x) phase' (λ over. grind (arith, ne_eqb)) f.1
 
 -- if the phase after p isn't `Overlong`, the output of p fits the buffer
@@ -69,6 +71,7 @@ quiet p old new phase none f =
       after = after;
       rest = rw last at (t.untouched [] idle.phased);
       len = t.takes.len;
+      -- the phase after p isn't `Overlong` (`going`), so the output of p fits (`fits-by`)
       fits = rw (← t.takes.len) (fits-by p (length new) (λ over. going p old new Idle phase (λ e. cc) f (after.phased.phase_is ∙ over)));
     }
 
@@ -121,6 +124,7 @@ module _ (old new p : List ℕ) (phase : Phase) (s : Quiet old new phase p) wher
         let q : List ℕ = p ++ x ∷ [] in
         -- the phase after p with x, which is `Overlong`
         let to : PhaseAfter (length new) (next_phase (length new) phase x) (fed p x) = (Feeds-step new phase x).phased p s.after.phased in
+        -- so the output of p with x is longer than the buffer, and the bytes after x don't make it shorter
         let long = long-by q (length new) (sym over ∙ to.phase_is ∙ ap (λ (l : List ℕ). phase_after l (length new)) (fed-nonzero p x nz)) in
         omega (arith, s.len, output-grows q tail, ap (λ (l : List ℕ). length (output l)) (append_assoc p (x ∷ []) tail))
 
@@ -130,4 +134,5 @@ module _ (old new p : List ℕ) (phase : Phase) (s : Quiet old new phase p) wher
 
   -- the numbers `written` and `missing` of a decoder with this phase are the counts of p
   pub quiet-at : (inner : UnbufferedDecoder) → phase_of inner ≡ phase → Counts p inner.written inner.missing
+  -- these numbers mean the phase (`is`), and the phase is the phase after p (`phase_is`)
   quiet-at inner is = at-by p (length new) (eqb inner.too_long 0) (eqb inner.joint 0) inner.missing inner.written (is ∙ s.after.phased.phase_is) (omega (arith, s.fits))

@@ -111,6 +111,7 @@ module _ {source old new : List ℕ} {at left written : ℕ} {full : Bool} (s : 
           front = record {
             begins = s.front.begins;
             within = omega (arith, s.place, length-drop (leading_zeros source) source);
+            -- the first n bytes are fed, and then this byte (`one`)
             fed = FeedsQuietly-more (rest source) _ _ _ _ _ _ s.n 1 s.front.fed (rw last (one new (Within full left written) other buffer next));
           };
         }
@@ -130,6 +131,7 @@ module _ {source old new : List ℕ} {at left written : ℕ} {full : Bool} (s : 
         let too-long : next_phase (length new) (Within full left written) (get_or (rest source) s.n 0) ≡ Overlong = rw here (no-room adds past) in
         let behind : drop (s.n + 1) (rest source) ≡ drop (at + 1) source = grind (arith, drop-drop) in
         let long = over-count s.front inside not-zero too-long in
+        -- the output of the piece is longer than the buffer, so its outcome is `TooLong` (`outcome_of_long`)
         ended-by ends.TooLong count (ap end_with (outcome_of_long piece (length old) (over-long s.front inside not-zero too-long)))
         (omega (arith, counted, long, ap (λ (l : List ℕ). length (head l)) behind, s.place)) (over-written s.front inside not-zero too-long)
 

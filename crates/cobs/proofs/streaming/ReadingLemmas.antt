@@ -59,6 +59,7 @@ module _ {buffer buffer' : List ℕ} {phase phase' : Phase} {end : PieceEnd} {co
   abbrev pub EndsFirstIn-taken : EndsFirstIn p bytes (length buffer') (outcome_at end buffer') (drop count bytes)
   EndsFirstIn-taken = record {
     front = t.ends.front;
+    -- the first `count` bytes are `front` and a zero (`taken`)
     cut = sym (take-append-drop count bytes) ∙ rw (t.ends.taken, append_assoc) refl;
     none_before = let none = t.ends.none_before p h.phased in grind arith;
     -- with the zero, the stream has this one outcome
@@ -105,6 +106,7 @@ nonempty_phase p n = grind (arith, not_idle)
 pub HasTaken-any : (buffer : List ℕ) (phase : Phase) (flag : Bool) (q : List ℕ) → ∥ ((p : List ℕ) × DecoderHasTaken buffer phase flag p) ∥₁ → DecoderAfter buffer phase q → DecoderHasTaken buffer phase flag q
 HasTaken-any buffer phase flag q some h = record {
   after = h;
+  -- p may be used without a name, because two booleans can be equal in only one way (`Bool-set`)
   flag = ∥∥₁_elim some (Bool-set flag (is_nonempty q)) (λ w.
       w.1.flag ∙ nonempty_phase w.0 (length buffer) ∙ ap not_idle (grind arith) ∙ sym (nonempty_phase q (length buffer)));
 }
@@ -137,6 +139,7 @@ module _ (front : List ℕ) (n : ℕ) (reads : List Read) (gave : All GaveBytes 
       record {
         few = omega (arith, length-take k reads);
         gave = All-take GaveBytes k reads gave;
+        -- no piece has ended in the bytes of all these reads, so none has in those of the first k reads
         none_ended = grind (arith, take-append-drop, append_assoc, left_nothing, stream_outcomes-append);
       }
 
@@ -213,6 +216,7 @@ module _ {S : Type 0} {step : S → Read → S → Type 0} {from to : S} {reader
   -- the last read returned no bytes, so the call returns `End`
   pub ReadsNext-end : {to' : S} (kept : List ℕ) → kept ≡ [] → count < 65536 → Going step from to reader₀ reader unfinished count → step to (Some []) to'
       → ReadsNext step from to' reader₀ (Ok (nexts.End unfinished)) (record reader { kept = kept })
+  -- the result isn't `Err(Io)`, and the read didn't fail, so both directions have a false premise
   ReadsNext-end kept e few g s = ReadsNext-read (Some []) few g s (λ f. absurd cc, λ n. absurd cc) (λ p b.
       let w = emptied kept e g p b in
       (w.0, (g.reads, refl), w.1))
@@ -254,7 +258,9 @@ ReadsNext-kept step source reader reader' next h idle = record {
   runs = refl;
   -- the result isn't `Err(Io)`, and there is no last read
   failed = (λ f. absurd cc, λ l. absurd (omega (arith, ap length l.1, length_push l.0 None)));
+  -- there is no read that would have to be called for
   called_for = λ p b earlier later read e. absurd (omega (arith, ap length e, length-append earlier (read ∷ later)));
+  -- p has no zero, so its unended bytes are p, and no piece has ended in it
   result_says = λ p b.
       let w : ReportsFirst next (unended p) reader.kept reader'.buffer reader'.kept = rw (unended-no_zero p b.phased.piece) (h p b) in
       rw (append-nil (p ++ reader.kept)) (Reports-first next [] p reader.kept reader' (stream_outcomes-no_zero p _ b.phased.piece) w idle);
@@ -272,6 +278,7 @@ module _ {S : Type 0} {step : S → Read → S → Type 0} {from to to' : S} {re
       → ((q : List ℕ) → ReaderAfter reader q → ReportsFirst next q bytes reader'.buffer reader'.kept) → ReaderAfter reader' []
       → ReadsNext step from to' reader₀ (Ok next) reader'
   ReadsNext-piece bytes next few g s len h idle = ReadsNext-read (Some bytes) few g s (λ f. absurd cc, λ n. absurd cc) (λ p b.
+      -- before this read the reader was at the end of the stream (`end`), so `Reports-first` applies
       let end = g.at_end p b in
       Reports-first next _ _ bytes reader' (grind arith) (h _ end.after) idle)
 

@@ -43,12 +43,14 @@ ran-on P bytes more buffer buffer' phase phase' i (suc r) within s f =
     let byte = get_or bytes i 0 in
     -- P holds after the first of these bytes, so it holds after the others
     let rest = ran-on P bytes more (next_buffer buffer phase byte) buffer' (next_phase (length buffer) phase byte) phase' (i + 1) r (omega arith) (more buffer phase i (omega arith) s fed.0) fed.1 in
+    -- (i + 1) + r is i + suc r
     subst (P buffer' phase') (omega arith) rest
 
 -- if no piece has ended in the first i bytes, and the next r bytes are fed quietly, no piece has ended in the
 -- first i + r bytes
 pub piece-run : {buffer₀ buffer buffer' : List ℕ} {phase₀ phase phase' : Phase} (bytes : List ℕ) (i r : ℕ) → i + r ≤ length bytes → TakesPiece buffer₀ phase₀ (take i bytes) None buffer phase
     → FeedsQuietly buffer phase (take r (drop i bytes)) buffer' phase' → TakesPiece buffer₀ phase₀ (take (i + r) bytes) None buffer' phase'
+-- `piece-more` says that a byte that returns `Ok(None)` ends no piece, so `ran-on` applies
 piece-run {buffer₀} {phase₀ = phase₀} bytes i r within t f =
     ran-on (λ buffer phase i. TakesPiece buffer₀ phase₀ (take i bytes) None buffer phase) bytes
     (λ buffer phase i within t quiet. piece-more bytes i within t (grind (arith, Feeds-step)) (λ _. ap end_reported quiet)) _ _ _ _ i r within t f
@@ -56,6 +58,7 @@ piece-run {buffer₀} {phase₀ = phase₀} bytes i r within t f =
 -- no piece ends in bytes that are fed quietly
 pub piece-all : (bytes buffer buffer' : List ℕ) (phase phase' : Phase) → FeedsQuietly buffer phase bytes buffer' phase'
     → TakesPiece buffer phase bytes None buffer' phase'
+-- this is `piece-run` from index 0 on, for all bytes
 piece-all bytes buffer buffer' phase phase' f =
     rw (take_all (0 + length bytes) bytes (omega arith)) at
     (piece-run bytes 0 (length bytes) (omega arith) (piece-nothing buffer phase) (rw (← take-length bytes) at f))
@@ -71,6 +74,7 @@ piece-over {buffer₀} {buffer} {phase₀} bytes i (suc r) within some t =
     let nz = All-head (λ b. b ≢ 0) _ _ rest in
     let over : next_phase (length buffer) Overlong (get_or bytes i 0) ≡ Overlong = rw (ne_eqb _ 0 nz) refl in
     let one = rw over at (piece-more bytes i (omega arith) t (Feeds-step buffer Overlong (get_or bytes i 0)) (λ z. absurd (nz z))) in
+    -- then the other r bytes follow, by induction
     subst (λ (k : ℕ). TakesPiece buffer₀ phase₀ (take k bytes) None buffer Overlong) (omega arith) (piece-over bytes (i + 1) r (omega arith) (All-tail (λ b. b ≢ 0) _ _ rest) one)
 
 -- THE RUN OF A DECODER
@@ -95,5 +99,6 @@ rest_kept xs buffer buffer' inner inner' k nz f past = grind (arith, quiet_rest)
 pub rest_read : (buffer buffer' : List ℕ) (inner inner' : UnbufferedDecoder) (read at end : ℕ) → read ≤ at → at ≤ end → HasNoZero (take (end - read) (drop read buffer))
     → FeedsQuietly buffer (phase_of inner) (take (at - read) (drop read buffer)) buffer' (phase_of inner') → inner'.written ≤ at → drop at buffer' ≡ drop (at - read) (drop read buffer)
 rest_read buffer buffer' inner inner' read at end order within nz f past =
+    -- the bytes that were read are among those from `read` to `end`, so they have no zero, as `rest_kept` needs
     let none = part-nonzero 0 (at - read) (end - read) (drop read buffer) nz (omega arith) in
     grind (arith, rest_kept, drop-drop)

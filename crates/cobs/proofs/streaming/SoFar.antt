@@ -138,6 +138,7 @@ module _ {buffer₀ buffer buffer' : List ℕ} {phase₀ phase phase' : Phase} {
       | inl old ↦ grind (arith, outcomes_more, reported_more, alike-append)
       | inr none ↦
           let plain : stream_outcomes (p ++ done) (length buffer₀) ≡ [] = stream_outcomes-no_zero (p ++ done) (length buffer₀) (All-append (λ b. b ≢ 0) p done h.piece none) in
+          -- so `found` is empty too, and only the outcomes of `more` are left
           rw (outcomes_more p done more (length buffer₀), plain, alike-nil found (rw plain at (s.alike p h)))
           (grind arith)
     ];
@@ -165,6 +166,7 @@ piece_count bytes i end count within t = grind (arith, common_steps, length-appe
 module _ {buffer₀ buffer buffer' : List ℕ} {phase₀ phase phase' : Phase} {found : List Outcome} (bytes : List ℕ) (i : ℕ) where
   -- if no piece ends in the bytes from index i on, all bytes are fed, and no other outcome is reported
   pub takes-all : TakesBytes buffer₀ phase₀ (take i bytes) found buffer phase → TakesPiece buffer phase (take (length bytes - i) (drop i bytes)) None buffer' phase' → TakesBytes buffer₀ phase₀ bytes found buffer' phase'
+  -- no outcome is added, and the first i bytes and those from index i on are all bytes
   takes-all s t = rw (append-nil found, take-append-drop i bytes) at (takes-more s (rw (take_rest bytes i) at t.takes))
 
   -- a piece ends after `count` of the bytes from index i on

@@ -99,6 +99,7 @@ module _ {inner : UnbufferedDecoder} {len : ℕ} {before xs : List ℕ} (s : IsS
   -- to write `ys` after the output has the effect of feeding the bytes of the span
   open_fed : FeedsQuietly before (phase_of inner) xs (over inner.written before ys) (phase_of (moved_on inner len left joint))
   open_fed =
+      -- `fed_walked` needs nonzero bytes, room, and no code after a full block; these are fields of `IsSpan`
       let fed = fed_walked xs before (code_by inner.joint) inner.missing inner.written s.nonzero
       (λ e. omega (arith, s.long, s.full (full_by inner.joint e))) (λ h. omega (arith, s.long, s.few (omega arith))) (omega (arith, s.long, s.room)) in
       grind (arith, block-phase, phase_with-begun)
@@ -132,6 +133,7 @@ row_ones (suc n) = grind (arith, row_ones n)
 pub row_walked : (n : ℕ) (bytes : List ℕ) → take n bytes ≡ replicate n 1
     → walked 1 0 bytes ≡ let w = walked 1 0 (drop n bytes) in (replicate n 0 ++ w.0, w.1, w.2)
 row_walked n bytes ones =
+    -- the walk over the first n bytes, and then over the others (`walked-append`)
     let front = walked-append 1 0 (take n bytes) (drop n bytes) in
     grind (arith, row_ones, take-append-drop)
 
@@ -147,6 +149,7 @@ row_fed n inner dest bytes new some few going none due room ones is =
     = record { room = room; long = long; going = going; full = λ e. absurd (due e); nonzero = ones-nonzero n; some = some; few = λ _. few } in
     -- the block before the codes may have any code that isn't 255
     let same = walked-any 1 code 0 (replicate n 1) (omega arith) in
+    -- the walk over n codes 1 makes n zeros of them (`row_ones`), as `open_fed` needs
     let fed = open_fed s inner.joint {ys = replicate n 0} {code = 1} {left = 0} (grind (arith, row_ones)) (grind arith) in
     grind (arith, length-replicate)
 
@@ -195,5 +198,6 @@ module _ (inner : UnbufferedDecoder) (len : ℕ) (dest : List ℕ) (nz : HasNoZe
       → FeedsQuietly before (phase_of inner) xs (put_mid inner.written (inner.written + len - inner.written) dest ys) (phase_of (moved_on inner len left joint))
   marked more ys last left joint e due =
       let s : IsSpan inner len before xs = record { room = room; long = long; going = going; full = full; nonzero = nonzero; some = few.0; few = λ _. few.1 } in
+      -- the walk may also begin from the code `code` (`own`), as `open_fed` needs
       let w = e ∙ own more in
       rw (written_over s joint w due dest dest-is) (open_fed s joint w due)

@@ -52,6 +52,7 @@ pub fed_piece : (first : ℕ) (bytes buffer : List ℕ) {ys : List ℕ} {code le
     → FeedsQuietly buffer Idle (first ∷ bytes) (over 0 buffer ys) (Within (eqb code 255) left (length bytes))
 fed_piece first bytes buffer w few nz room =
     let some = All-head (λ b. b ≢ 0) first bytes nz in
+    -- after the code `first`, `first - 1` bytes of its block are missing, and there is no output yet
     let fed = fed_walked bytes buffer first (first - 1) 0 (All-tail (λ b. b ≢ 0) first bytes nz) (λ e. omega arith) (λ h. few) (omega (arith, room)) in
     grind arith
 
@@ -116,6 +117,8 @@ module _ (first : ℕ) (bytes : List ℕ) (some : 0 < first) (more : first ≤ l
   -- over all bytes.
   pub walked-next : (ys : List ℕ) (code left : ℕ) → IsWalked ys code left next (next - 1) (drop first bytes) → IsWalked (put_mid first (length marked - first) marked ys) code left first (first - 1) bytes
   walked-next ys code left e =
+      -- the bytes are those of the first block, the next code, and the bytes after it (`cut`); the result has a zero in
+      -- place of this code, and `ys` after it (`put`)
       let cut : bytes ≡ take (first - 1) bytes ++ (next ∷ drop first bytes) = grind (arith, take-append-drop, drop_more) in
       let put : put_mid first (length marked - first) marked ys ≡ take (first - 1) bytes ++ (0 ∷ ys) = grind (arith, drop_all, length-drop, take_more_set, append-nil, append_assoc) in
       grind (arith, walked-append, front)

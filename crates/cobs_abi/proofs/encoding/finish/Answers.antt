@@ -12,6 +12,7 @@ returns-in-Ok c =
     -- the call returns early for an empty buffer, so this buffer isn't empty
     let some : length c.args.buffer.now ≢ 0 = eqb-false _ 0 (sym c.is_empty.ensures ∙ c.if-is_empty.false) in
     record {
+      -- the arguments are clauses of `finalize`; the frame has no zero (`no_sentinel`), and the encoder is fresh
       finishes = rw c.done.ensures (Finishes-finalized some e.len (λ m h. (e.frame m h, e.no_sentinel m h)) e.end e.within (record { start = e.start; taken = e.taken }) e.rest e.buffer_len);
     }
 
@@ -19,4 +20,5 @@ returns-in-Ok c =
 pub returns-in-Err : goal.returns-in-Err
 returns-in-Err c =
     let e = c.in-Err.ensures in
+    -- if the encoder had taken a message m, the result would be an `Ok` by the clause `fits`
     record { finishes = rw c.too_small-in-Err.ensures (Finishes-refused (λ m h. let no = e.fits m h in absurd cc) e.refused.0 e.refused.1) }

@@ -21,6 +21,7 @@ returns-in-Ok c =
     let whole = length-take-le last c.args.buffer.now (omega arith) in
     -- `Finishes 0` holds for the buffer without its last byte
     let f = Finishes-finalized (omega (arith, whole, long)) e.len (λ m h. (e.frame m h, e.no_sentinel m h)) e.end e.within (record { start = e.start; taken = e.taken }) e.rest e.buffer_len in
+    -- `law_2` and `law_13` give the length of the frame, which the front of the buffer has room for
     record { finishes = rw c.done.ensures (Finishes-terminated c.law_2.ensures.len c.law_13.ensures.end last 0 (omega (arith, long)) (f.len ∙ whole) f ended refl) }
 
 -- `finalize` failed in the buffer without its last byte
@@ -31,6 +32,7 @@ returns-in-Err c =
     -- the length of the buffer without its last byte; it isn't 0, because the buffer has at least 2 bytes (`long`)
     let last : ℕ = length c.args.buffer.now - 1 in
     let whole = length-take-le last c.args.buffer.now (omega arith) in
-    -- `Finishes 0` holds for this failed call, which changed nothing
+    -- `Finishes 0` holds for this failed call, which changed nothing; if the encoder had taken a message m in this
+    -- front, the result would be an `Ok` by the clause `fits`
     let f = Finishes-refused (λ m h. let no = e.fits m h in absurd cc) e.refused.0 e.refused.1 in
     record { finishes = rw c.too_small-in-Err.ensures (Finishes-no_room c.law_2.ensures.len c.law_13.ensures.end last 0 (omega (arith, long)) (f.len ∙ whole) f (λ ok. absurd (omega (arith, ok)))) }

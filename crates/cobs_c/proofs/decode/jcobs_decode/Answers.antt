@@ -18,6 +18,7 @@ returns-in-Some-Ok c =
     let size : Result ℕ DecodeError = Ok c.in-Some-Ok.report.frame_size in
     -- `e` has the clauses of `decode_short` for this result
     let e = rw c.in-Some-Ok.is at c.decode_short.ensures in
+    -- `Decodes` holds for the struct that `result_by` gives for `size` (`short-decodes`)
     let decoded = short-decodes c.law_12.ensures.piece c.law_1.ensures.within source c.args.message.now c.decode_short.new.dest c.in-Some-Ok.report.parsed_size size e.short (sym c.in-Some-Ok.field-0-is ∙ e.returned) e.buffer in
     -- the returned struct is `result_by` of the report's length
     let result = ap (λ (k : ℕ). result_by (length source) n (Ok k)) (sym c.frame_size.ensures.size) ∙ sym c.done.ensures in
@@ -29,5 +30,6 @@ returns-in-Some-Err c =
     let source : List ℕ = c.args.source.now in
     -- `e` has the clauses of `decode_short` for this result
     let e = rw c.in-Some-Err.is at c.decode_short.ensures in
+    -- `Decodes` holds for the struct that `result_by` gives for this error (`short-decodes`)
     let decoded = short-decodes c.law_12.ensures.piece c.law_1.ensures.within source c.args.message.now c.decode_short.new.dest 0 (Err c.in-Some-Err.error) e.short (sym c.in-Some-Err.field-0-is ∙ e.returned) e.buffer in
     record { decodes = subst (λ (a : Answer). Decodes source c.args.message.now a c.decode_short.new.dest) (sym c.result_by.ensures) decoded }

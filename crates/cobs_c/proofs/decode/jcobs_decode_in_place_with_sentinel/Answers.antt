@@ -16,6 +16,7 @@ returns-then-room-ne0 c =
     let buffer : List ℕ = c.args.buffer.now in
     record {
       decodes = record {
+        -- one byte is consumed, the sentinel, and the message is empty; nothing is written
         returned = c.done.ensures ∙ sentinel-result law buffer _ c.args.sentinel e.within e.before e.stop c.if-end-eq0.true c.if-room-ne0.true (length buffer);
         buffer = sentinel-buffer law buffer _ c.args.sentinel e.within e.before e.stop c.if-end-eq0.true c.if-room-ne0.true;
       };

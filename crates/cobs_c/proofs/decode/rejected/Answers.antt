@@ -30,6 +30,7 @@ returns c message message' long written =
           -- p is the piece that was found, and the error is the result for the outcome of p (`rejected`)
           let same : found.0 ≡ p = let e = sym found.1 ∙ is in cc in
           let rejected = report_result-err (len_through_piece source p) (outcome_result (outcome_of p n)) c.args.error (asked ∙ result-some source p n is) in
+          -- the answer for the error, with the end of p as the number of consumed bytes, and then with the outcome of p
           answered ∙ ap (λ (k : ℕ). result_by k n (Err c.args.error)) (found.2 ∙ ap (len_through_piece source) same) ∙ ap (result_by (len_through_piece source p) n) rejected;
       buffer = written;
       room = λ enough small.

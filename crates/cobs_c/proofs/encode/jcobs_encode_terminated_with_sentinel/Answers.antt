@@ -12,6 +12,7 @@ returns c =
     let last : ℕ = length c.args.frame.now - 1 in
     let front = length-take-le last c.args.frame.now (omega arith) in
     record {
+      -- a frame f for the sentinel, followed by the sentinel, is a terminated frame by definition (the last argument)
       encodes = rw c.done.ensures (Writes-terminated last c.args.sentinel (omega (arith, some)) (omega (arith, front, c.jcobs_encode_with_sentinel-returned.auto.frame))
           c.jcobs_encode_with_sentinel-returned.ensures.encodes c.if-returned-ne-OK.false (λ (f : List ℕ) w. (f, w, refl)));
     }

@@ -25,4 +25,5 @@ returns c =
     let whole = length-take-le last c.args.buffer.now (omega arith) in
     -- the postcondition of the call that ends the message
     let f = c.jcobs_encoder_finish_with_sentinel-returned.ensures.finishes in
+    -- a frame for the sentinel, followed by the sentinel, is a terminated frame by definition
     record { finishes = rw c.done.ensures (Finishes-terminated c.law_2.ensures.len c.law_13.ensures.end last c.args.sentinel (omega (arith, some)) (f.len ∙ whole) f (λ (x m : List ℕ) e. (x, e, refl)) c.if-returned-ne-OK.false) }

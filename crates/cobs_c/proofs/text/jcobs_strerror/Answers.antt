@@ -13,4 +13,5 @@ returns-clause-text c =
     let same = c.as_bytes-words.ensures.value ∙ c.words.ensures in
     -- the buffer with the first `end` bytes of the text and a zero is the buffer that the clause states
     let e = words-written c.args.text.now (words c.args.status) c.min-end.result (omega arith) (c.min-end.ensures ∙ ap (λ (w : List ℕ). min (length w) (length c.args.text.now - 1)) same) in
+    -- the bytes that were copied are the first `end` bytes of this text (`after`, `same`)
     ap (λ (l : List ℕ). set (l ++ drop c.min-end.result c.args.text.now) c.min-end.result 0) (c.copy_from_slice.ensures.after ∙ ap (take c.min-end.result) same) ∙ e

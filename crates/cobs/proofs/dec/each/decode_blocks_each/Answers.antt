@@ -33,6 +33,7 @@ module _ (old : List ℕ) (end : ℕ) (fits : end ≤ length old) where
     -- `code` is the first of the bytes that are still to be decoded
     code-is : code ≡ get_or (drop read h) 0 0
     code-is =
+        -- the byte at index `read` of the buffer isn't overwritten yet (`left-behind`), and h has the same byte there
         let place : read + 0 ≡ read = omega arith in
         rw (get_or-drop, place, get_or-take end old read 0 here) (left-behind l read order)
 
@@ -41,6 +42,7 @@ module _ (old : List ℕ) (end : ℕ) (fits : end ≤ length old) where
 
     -- if h has the whole block, its bytes are the next ones to be decoded, and then the bytes after it
     block-begun : code ≤ end - read → BlockLeft h old buffer written (take (code - 1) (drop (read + 1) h)) code (drop (read + code) h)
+    -- `left-block` says this of the bytes that are left; to drop 1 or `code` of these is to drop as many more of h
     block-begun whole = rw (drop-drop 1 read h, drop-drop code read h) at (left-block l code some code-is (omega (arith, rest-long read)))
 
   -- the next byte of the open block is at index `read`, still in its old place; the block ends before index `next`
@@ -67,6 +69,7 @@ pub by_block-init : goal.by_block-init
 by_block-init c = record {
   order = omega arith;
   within = omega arith;
+  -- no byte of h is a zero, and each byte is below 256, as `left-all` needs
   left = left-all _ _ c.requires.nonzero (All-take (λ b. b < 256) _ _ (bytes_below _ (search rules)));
 }
 
@@ -75,6 +78,7 @@ pub returns-then-end-read : goal.returns-then-end-read
 returns-then-end-read c =
     let i = c.by_block.invariant in
     let within = c.requires.within in
+    -- fewer bytes are left than the next code says (`left-broken`); h fits the buffer, as `decoded-in_place` needs
     decoded-in_place _ _ (omega (arith, long _ _ within))
     (left-broken i.left _ (some _ _ within _ i.left i.order c.by_block-test.true) (code-is _ _ within _ i.left i.order c.by_block-test.true) (omega (arith, rest-long _ _ within c.by_block.read)))
 
@@ -82,6 +86,7 @@ returns-then-end-read c =
 pub by_byte-init : goal.by_byte-init
 by_byte-init c =
     let i = c.by_block.invariant in
+    -- the bytes of the block are the next ones to be decoded (`begun`), and its code isn't 0 (`some`)
     let begun = block-begun _ _ c.requires.within _ i.left i.order c.by_block-test.true c.if-end-read.false in
     let some = positive _ _ c.requires.within _ i.left i.order c.by_block-test.true in
     grind arith
@@ -118,4 +123,5 @@ pub returns : goal.returns
 returns c =
     let i = c.by_block.invariant in
     let within = c.requires.within in
+    -- `read` isn't below `end`, so no byte of h is left (`left-none`)
     decoded-in_place _ _ (omega (arith, long _ _ within)) (left-none i.left (omega (arith, rest-long _ _ within c.by_block.read)))

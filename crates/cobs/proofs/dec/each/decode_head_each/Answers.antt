@@ -79,9 +79,11 @@ returns-then-is_empty-clause-buffer c = grind (arith, nothing_kept, none-left)
 pub by_block-init : goal.by_block-init
 by_block-init c =
     let e = c.len_to.ensures in
+    -- by the clauses of `len_to` (e), the XORed bytes before the sentinel are h (`is`) and have no zero (`nonzero`)
     let is = xor_head c.args.source.now c.len_to.result c.args.sentinel e.within e.before e.stop in
     let nonzero = xor_no_zero c.args.source.now c.len_to.result c.args.sentinel e.within e.before e.stop in
     let below = All-take (λ b. b < 256) c.len_to.result _ (xored_below c.args.sentinel c.args.source.now c.ranges.sentinel.fits c.type_inv.source) in
+    -- `left-all` needs that no byte of h is a zero, and that each byte is below 256 (`below`)
     rw is (left-all _ _ (rw is at nonzero) (rw (← front_xored, is) at below))
 
 -- the block breaks off, so the result is an error
@@ -90,6 +92,7 @@ returns-then-rest-code c =
     let rest : List ℕ = c.by_block.rest.now in
     let s : ℕ = c.args.sentinel in
     let some = some-left rest _ c.is_empty-in-by_block.ensures c.by_block-test.true in
+    -- `answered` needs a nonempty source; fewer bytes are left than the code says (`left-broken`)
     answered _ _ _ _ _ (some-left _ _ c.is_empty.ensures c.if-is_empty.false)
     (left-broken c.by_block.invariant _ (omega (arith, long rest s)) (code-is rest s some) (omega (arith, long rest s, c.if-rest-code.true)))
 
@@ -106,6 +109,7 @@ by_byte-init c =
     let rest : List ℕ = c.by_block.rest.now in
     let s : ℕ = c.args.sentinel in
     let some = some-left rest _ c.is_empty-in-by_block.ensures c.by_block-test.true in
+    -- `left-block` is about the XORed bytes after the code, which are the XORed bytes of the block (`items-are`)
     rw (items-are rest s) (left-block c.by_block.invariant _ (omega (arith, long rest s)) (code-is rest s some) (omega (arith, long rest s, c.if-rest-code.false)))
 
 -- one more byte of the block is written
@@ -115,12 +119,14 @@ by_byte-preserved c = grind (arith, block-more, more-bytes)
 -- there is no room for a byte of the block
 pub returns-then-dest-written : goal.returns-then-dest-written
 returns-then-dest-written c =
+    -- the source isn't empty, and the byte at `byte-index` is the block's next byte (`more-bytes`)
     answered _ _ _ _ _ (some-left _ _ c.is_empty.ensures c.if-is_empty.false)
     (block-full _ (more-bytes _ _ _ c.by_byte-test.true) c.by_byte.invariant c.if-dest-written.true)
 
 -- there is no room for the zero that joins two blocks
 pub returns-then-dest-written-2 : goal.returns-then-dest-written-2
 returns-then-dest-written-2 c =
+    -- another block follows (`more`), and all bytes of this block are written (`bytes-ended`): the zero is next
     let more = some-left _ _ c.is_empty-then-code-ne-FULL_CODE.ensures c.if-not-is_empty.true in
     answered _ _ _ _ _ (some-left _ _ c.is_empty.ensures c.if-is_empty.false)
     (zero-full (bytes-ended _ _ _ c.by_byte-test.false) c.by_byte.invariant (omega (arith, more, next-long c.by_block.rest.now c.args.sentinel))
@@ -129,6 +135,7 @@ returns-then-dest-written-2 c =
 -- a zero joins the block to the next block
 pub by_block-preserved-then-not-is_empty : goal.by_block-preserved-then-not-is_empty
 by_block-preserved-then-not-is_empty c =
+    -- another block follows (`more`), and all bytes of this block are written (`bytes-ended`): the zero is next
     let more = some-left _ _ c.is_empty-then-code-ne-FULL_CODE.ensures c.if-not-is_empty.true in
     rw (next-is c.by_block.rest.now c.args.sentinel)
     (block-zero (bytes-ended _ _ _ c.by_byte-test.false) c.by_byte.invariant (omega (arith, more, next-long c.by_block.rest.now c.args.sentinel))

@@ -20,6 +20,7 @@ by_byte-init c = grind (arith, read-first)
 -- there is no room for a byte of the open block
 pub returns-then-written-dest : goal.returns-then-written-dest
 returns-then-written-dest c =
+    -- a byte of the block is missing, so the premise `left ≡ 0` of `over` is false
     over c.by_byte.invariant c.by_byte-test.true c.if-byte-eq0.false (λ none. absurd (c.if-left-ne0.true none)) (omega arith) c.through_piece.ensures.end
 
 -- a byte of the open block is written
@@ -29,6 +30,7 @@ by_byte-preserved-then-left-ne0 c = grind (arith, read-byte)
 -- there is no room for the zero between two blocks
 pub returns-then-written-dest-2 : goal.returns-then-written-dest-2
 returns-then-written-dest-2 c =
+    -- the block before isn't full, as `over` needs: so the code adds a zero, and the zero has no room
     over c.by_byte.invariant c.by_byte-test.true c.if-byte-eq0.false (λ _. ne_eqb _ 255 c.if-code.true) (omega arith) c.through_piece-then-written-dest-2.ensures.end
 
 -- a code after a block that isn't full (`read-zero`), or after a full block (`read-full`)
@@ -40,6 +42,8 @@ pub returns : goal.returns
 returns c =
     let is = c.ended.ensures in
     elim c.by_byte-test.branch [
+      -- the source ends, so the premise that another byte follows is false
       | goal.else-by_byte-test w ↦ ended c.by_byte.invariant (λ more. absurd (omega arith)) (omega (arith, w.at-is, w.by_byte-test.false, c.by_byte.invariant.within)) is.whole is.broken
+      -- the next byte is a zero
       | goal.then-by_byte-test+then-byte-eq0 w ↦ ended c.by_byte.invariant (λ more. w.if-byte-eq0.true) (omega (arith, w.at-is, w.by_byte-test.true)) is.whole is.broken
     ]

@@ -21,6 +21,7 @@ module _ (source : List ℕ) (at end : ℕ) (after : at ≤ end) (none : HasNoZe
   next : end < length source → get_or source end 0 ≢ 0 → HasNoZero (take (end + 1 - at) rest)
   next more other =
       let one : end + 1 - at ≡ end - at + 1 = omega arith in
+      -- the passed bytes are those before index `end`, none of which is a zero (`none`), and the byte at `end`
       rw (one, take_more rest (end - at) 0 (omega (arith, length-drop at source))) (All-push (λ b. b ≢ 0) (take (end - at) rest) _ none (rw here other))
 
   -- if this byte is a zero, or the source ends here, `end` is the place of the first zero from `at` on, or the end of
@@ -36,6 +37,7 @@ by_byte-preserved c = grind (arith, next)
 pub returns-after-by_byte : goal.returns-after-by_byte
 returns-after-by_byte c =
     let i = c.by_byte.invariant in
+    -- `place` needs that a next byte would be a zero; there is no next byte
     let end = place c.args.source.now c.args.at c.by_byte.end i.after i.before i.within (λ more. absurd (omega arith)) in
     record { end = omega arith }
 

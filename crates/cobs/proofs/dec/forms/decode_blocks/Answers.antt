@@ -55,6 +55,7 @@ take_blocks-requires-2-clause-nonzero c = grind (arith, common_steps, All-drop, 
 pub kept_len-len-requires-clause-left : goal.kept_len-len-requires-clause-left
 kept_len-len-requires-clause-left c =
     let at = (goal.at.kept_len-len-requires-clause-left c).After-take_blocks in
+    -- the first call took all of its bytes (`all-fed`), so no more bytes are missing than h still has (`tail_left`)
     let most = tail_left (h at) _ _ c.take_blocks.new.self _ c.requires (all-fed at c.if-take_blocks-tail.false) (omega (arith, long at)) (below at) in
     omega (arith, most, long at, length-take {A = ℕ}, length-drop {A = ℕ})
 
@@ -67,7 +68,9 @@ kept_len-len-requires-clause-nonzero c = grind (arith, common_steps, rest_xored,
 pub returns-then-take_blocks-tail : goal.returns-then-take_blocks-tail
 returns-then-take_blocks-tail c =
     let at = (goal.at.returns-then-take_blocks-tail c).After-take_blocks in
+    -- `cut` has a number k: the kept output is that of the first k bytes of h, which are all but at most 253 bytes
     let cut = kept-cut (h at) c.requires (below at) in
+    -- the byte after the taken bytes has no room (`stop`), and it is the same byte of h (`here`)
     let stop = rw front_xored at (c.take_blocks.ensures.stop (omega (arith, length-take {A = ℕ}))) in
     let here = get_or-take (tail at) (h at) c.take_blocks.result 0 c.if-take_blocks-tail.true in
     kept_stop _ _ _ _ cut.0 _ cut.1.1 c.requires (omega (arith, cut.1.0, long at)) (omega (arith, long at)) (first at) (rw here at stop)
@@ -89,6 +92,7 @@ returns-then-take_blocks-len c =
     let fed = all-fed at c.if-take_blocks-tail.false in
     -- the output of the bytes that both calls get is the kept output
     let kept = c.kept_len-len.ensures.kept (h at) tail (sym (rest_xored _ _ tail)) (missed (h at) _ _ c.take_blocks.new.self tail c.requires fed) in
+    -- the bytes of both calls are within h (`inside`), and the next byte of the second call has no room (`short`)
     let inside : tail + c.kept_len-len.result.0 ≤ length (h at) = omega (arith, long at, c.kept_len-len.ensures.within, length-take {A = ℕ}, length-drop {A = ℕ}) in
     let short = c.take_blocks-2.ensures.stop (omega (arith, inside, length-take {A = ℕ}, length-drop {A = ℕ}, long at)) in
     kept_stop _ _ _ _ _ _ kept c.requires (omega arith) (omega arith) (second both.After-take_blocks-2 fed)
@@ -104,6 +108,7 @@ returns c =
     -- what `kept_len` says: the output of these bytes is the kept output, and whether the frame is whole
     let kept = c.kept_len-len.ensures.kept (h at) tail (sym (rest_xored _ _ tail)) (missed (h at) _ _ c.take_blocks.new.self tail c.requires fed) in
     let whole = c.kept_len-len.ensures.whole (h at) tail (sym (rest_xored _ _ tail)) (missed (h at) _ _ c.take_blocks.new.self tail c.requires fed) in
+    -- the second call took all of its bytes, so it took as many as `kept_len` returned
     let same : c.take_blocks-2.result ≡ c.kept_len-len.result.0 = omega arith in
     kept_fits _ _ _ c.take_blocks-2.new.self _ _ _ c.requires (rw same at (second both.After-take_blocks-2 fed)) kept whole
     c.message_len.ensures.whole c.message_len.ensures.broken

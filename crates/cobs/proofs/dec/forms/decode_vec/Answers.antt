@@ -36,10 +36,12 @@ returns-in_err-report c =
       -- the clause `message` says nothing about an error
       message = tt;
       refused = no.0;
+      -- the source isn't empty, so the premise of this field is false
       empty = λ none. absurd (omega (arith, ap length none));
       -- the error isn't `TargetBufTooSmall`
       room = λ same. no.1 (cc);
       -- the source isn't a frame, because a frame has no error
       reads = λ found m r. absurd (let rejected = no.0 in let same = (decoded_reads c.args.source.now (bytes_below _ c.type_inv.source) m (frame_piece r)).1 r in cc);
+      -- the premise is that the result is a message, but it is an error
       only = λ piece m e. absurd e;
     })

@@ -33,6 +33,7 @@ pub returns-in_err-len : goal.returns-in_err-len
 returns-in_err-len c =
     let some : 0 < length c.args.source.now = grind arith in
     let is : (error : DecodeError) × (c.decode_with_sentinel.result ≡ Err error) × (c.from_residual-in_err-len.result ≡ Err (Decode error)) = search rules in
+    -- the vector is as long as the source (`long`), and so as long as the XORed source (`changed`)
     let long : length c.deref_mut.result.now ≡ length c.args.source.now = search rules in
     let changed = length-map c.args.source.now (λ (b : ℕ). bit_xor b c.args.sentinel) in
     let no = decoded_head-rejected (xor_each c.args.sentinel c.args.source.now) _ (long ∙ sym changed) is.0 (omega arith) (sym is.1 ∙ c.decode_with_sentinel.ensures.answer) in
@@ -40,10 +41,12 @@ returns-in_err-len c =
       -- the clause `message` says nothing about an error
       message = tt;
       refused = no.0;
+      -- the source isn't empty, so the premise of this field is false
       empty = λ none. absurd (omega (arith, ap length none));
       -- the error isn't `TargetBufTooSmall`
       room = λ same. no.1 (cc);
       -- the XORed source isn't a frame, because a frame has no error
       reads = λ found m r. absurd (let rejected = no.0 in let same = (decoded_head_reads _ (xored_below _ _ c.ranges.sentinel.fits c.type_inv.source) m (frame_piece r)).1 r in cc);
+      -- the premise is that the result is a message, but it is an error
       only = λ piece m e. absurd e;
     })

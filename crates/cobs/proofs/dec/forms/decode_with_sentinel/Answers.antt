@@ -35,6 +35,7 @@ returns-then-eq c =
     -- h is what `decode_span` gets, XORed: the bytes before the first sentinel (`is`)
     let h : List ℕ = xor_each s (take len source) in
     let e = c.len_without_end-len.ensures in
+    -- the result `Some(0)` says that no byte of the last block is missing; d has the clauses for this result
     let found : c.decode_span.result ≡ Some 0 = grind arith in
     let d = rw found at c.decode_span.ensures in
     let long = length-take-le len source e.within in
@@ -43,9 +44,11 @@ returns-then-eq c =
     let written : c.copy_from_slice.new.self ≡ output h = grind arith in
     let count = ap length written in
     let some : 0 < length source = omega arith in
+    -- `whole_result` gives the result for h, and h is the head of the XORed source (`is`)
     let returned : Ok (len - 1) ≡ result_of_sentinel_decode f n = grind (arith, whole_result, result-fits, whole-kept, result_of_sentinel_decode-head) in
     -- `dest` has the message, and then the bytes that it had before
     let buffer = rw is at (whole_front h c.args.dest.now _ (len - 1) whole written (omega (arith, d.len)) (omega (arith, d.len))) in
+    -- `source_clauses` also needs that the XORed bytes are below 256
     let below = xored_below s source c.ranges.sentinel.fits c.type_inv.source in
     source_clauses _ _ _ _ returned buffer below
 
@@ -59,5 +62,6 @@ returns c =
     let f : List ℕ = xor_each c.args.sentinel c.args.source.now in
     let returned : c.decode_blocks.result ≡ result_of_sentinel_decode f (length c.args.dest.now) = grind (arith, xor_head, result_of_sentinel_decode-head) in
     let buffer : c.decode_blocks.new.dest ≡ overwritten c.args.dest.now (kept_output (head f)) = grind (arith, xor_head) in
+    -- `source_clauses` also needs that the XORed bytes are below 256
     let below = xored_below c.args.sentinel c.args.source.now c.ranges.sentinel.fits c.type_inv.source in
     source_clauses _ _ _ _ returned buffer below

@@ -48,12 +48,14 @@ module _ (c : After-take_in_place) where
   -- the bytes of the buffer after them are as they were
   rest : drop tail new ≡ drop tail c.args.buffer.now
   rest =
+      -- none of the fed bytes is a zero, and their output ends at index `tail` or before it, so `rest_read` applies
       let nz = part-nonzero 0 (tail - 0) c.args.end c.args.buffer.now c.requires.nonzero (omega arith) in
       grind (arith, rest_read c.args.buffer.now new START c.take_in_place.new.self 0 tail tail (omega arith) (omega arith) nz c.take_in_place.ensures.fed c.take_in_place.ensures.behind)
 
   -- `kept_len` gets the last 254 bytes of h from the buffer, and XORs them with 0
   last : drop tail h ≡ xor_each 0 (take (c.args.end - tail) (drop tail new))
   last =
+      -- h is cut off at index `end`; its bytes from `tail` on are those of the buffer now (`rest`)
       let e : c.args.end ≡ tail + (c.args.end - tail) = omega arith in
       grind (arith, rest, xor_each-zero, drop-take)
 
@@ -65,6 +67,7 @@ module _ (c : After-take_in_place) where
 pub kept_len-len-requires-clause-left : goal.kept_len-len-requires-clause-left
 kept_len-len-requires-clause-left c =
     let at = (goal.at.kept_len-len-requires-clause-left c).After-take_in_place in
+    -- all bytes but the last 254 are fed, so no more bytes are missing than h still has (`tail_left`)
     let most = tail_left (h at) _ _ c.take_in_place.new.self (tail at) c.requires.nonzero (fed at) (omega (arith, long at)) (below at) in
     omega (arith, most, bytes-long at, long at)
 
@@ -87,8 +90,10 @@ returns c =
     let n : ℕ = c.kept_len-len.result.0 in
     let e = c.kept_len-len.ensures in
     let few : n ≤ c.args.end - tail at = omega (arith, e.within, bytes-long at) in
+    -- the decoder's number `missing` is that of the open block of h; `kept` and `whole` of `kept_len` need this
     let missing = missed (h at) _ _ c.take_in_place.new.self (tail at) c.requires.nonzero (fed at) in
     let next : FeedsQuietly (new at) (phase_of c.take_in_place.new.self) (take n (drop (tail at) (h at))) c.take_in_place-2.new.buffer (phase_of c.take_in_place-2.new.self)
     = grind (arith, last, rest, take-take, xor_each-zero) in
+    -- both calls fed the first tail + n bytes of h, and their output is the kept output (`kept` of `kept_len`)
     kept_fed _ _ _ c.take_in_place-2.new.self _ _ _ c.requires.nonzero (FeedsQuietly-more (h at) _ _ _ _ _ _ (tail at) n (fed at) next)
     (e.kept _ _ (last at) missing) (e.whole _ _ (last at) missing) c.message_len.ensures.whole c.message_len.ensures.broken

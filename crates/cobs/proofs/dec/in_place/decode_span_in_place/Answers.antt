@@ -94,6 +94,7 @@ moved c = grind arith
 -- `copy_xored_short` found a zero, so the clause `taken` doesn't apply
 pub returns-then-not-copy_xored_short-clause-taken : goal.returns-then-not-copy_xored_short-clause-taken
 returns-then-not-copy_xored_short-clause-taken c few nz ends =
+    -- the bytes after the first code have no zero, so `copy_xored_short` would have copied them
     let behind = rw (← xor_each-zero (take (c.args.len - 1) (drop 1 c.args.buffer.now))) at (part-nonzero 1 (c.args.len - 1) c.args.len c.args.buffer.now nz (omega arith)) in
     grind arith
 
@@ -105,12 +106,14 @@ write_zeros_at_codes-left-requires-clause-nonzero c = let m = moved (goal.at.wri
 pub returns-then-left-ne0-clause-taken : goal.returns-then-left-ne0-clause-taken
 returns-then-left-ne0-clause-taken c few nz ends =
     let m = moved (goal.at.returns-then-left-ne0-clause-taken c).After-move_to_front in
+    -- `piece` says that `left` bytes of the last block are missing, but `ends` says that none is missing
     absurd (c.if-left-ne0.true ((piece m c.write_zeros_at_codes-left.ensures).1 ∙ ends))
 
 -- bytes of the last block are missing, so the copy is put back
 pub returns-then-left-ne0-clause-kept : goal.returns-then-left-ne0-clause-kept
 returns-then-left-ne0-clause-kept c _ =
     let m = moved (goal.at.returns-then-left-ne0-clause-kept c).After-move_to_front in
+    -- the first `len` bytes of the local buffer, which are written back, are the frame (`front-is`)
     let copied = front-is c.args.buffer.now _ _ c.args.len m.some m.most m.within (c.if-not-copy_xored_short.ensures.copied refl) in
     put_back m c.write_zeros_at_codes-left.ensures _ (c.copy_from_slice.ensures.after ∙ copied)
 

@@ -12,6 +12,7 @@ pub returns-then-zero_or_len-bytes : goal.returns-then-zero_or_len-bytes
 returns-then-zero_or_len-bytes c =
     let bytes : List ℕ = c.args.bytes.now in
     let more = c.if-zero_or_len-bytes.true in
+    -- no byte of a frame is a zero (`frame_nonzero`), but the byte that was found is a zero (`stop`)
     says bytes NotAFrame (λ frame. All-get_or (λ b. b ≢ 0) bytes _ 0 more (frame_nonzero bytes _ frame.1) (c.zero_or_len.ensures.stop more))
 
 -- `zero_or_len` found no zero, so no byte is a zero

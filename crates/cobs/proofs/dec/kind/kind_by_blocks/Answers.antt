@@ -22,6 +22,7 @@ by_block-preserved c =
     let bytes : List ℕ = c.args.bytes.now in
     let read : ℕ = c.by_block.read in
     let is = code_at bytes read (omega arith) in
+    -- more bytes are left than the code says, so the block with this code can be skipped (`one-more`)
     let more = one-more _ _ _ c.by_block.invariant.1 (omega (arith, is, length-drop read bytes)) in
     (omega arith, rw (is, drop-drop (get_or bytes read 0) read bytes) at more)
 
@@ -29,6 +30,7 @@ by_block-preserved c =
 pub returns-then-left-code : goal.returns-then-left-code
 returns-then-left-code c =
     let is = code_at c.args.bytes.now c.by_block.read (omega arith) in
+    -- fewer bytes are left than the code says
     says c.args.bytes.now NotAFrame (broken-kind _ _ _ c.by_block.invariant.1 (λ some. omega (arith, is, length-drop c.by_block.read c.args.bytes.now)))
 
 -- the last block is the lone block, after a full block
@@ -40,8 +42,10 @@ pub returns-else-after_full : goal.returns-else-after_full
 returns-else-after_full c =
     let is = code_at c.args.bytes.now c.by_block.read (omega arith) in
     let rest = length-drop c.by_block.read c.args.bytes.now in
+    -- exactly the bytes of the block are left; after a full block, more than one byte is left (last argument)
     says c.args.bytes.now Canonical (canonical-kind _ _ _ c.by_block.invariant.1 (omega arith) (omega (arith, is, rest)) (λ full one. grind (arith, rest)))
 
 -- there are no bytes
 pub returns : goal.returns
+-- `broken-kind` is also for the case that no byte is left, as here
 returns c = says c.args.bytes.now NotAFrame (broken-kind _ _ _ c.by_block.invariant.1 (λ some. omega (arith, length-drop c.by_block.read c.args.bytes.now)))

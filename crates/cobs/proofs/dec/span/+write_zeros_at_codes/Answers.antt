@@ -18,5 +18,6 @@ write_zeros_at_codes-requires t c = grind (arith, All-head, behind-code, length-
 -- the walk over `dest` goes on after the next code as the recursive call says
 pub returns : goal.returns
 returns t c =
+    -- a code isn't 0 (`some`), and the recursive call got the bytes after the next code (`behind-code`)
     let some : 0 < c.args.first = omega (arith, All-head (λ b. b ≢ 0) c.args.first c.args.dest.now c.requires.nonzero) in
     walked-next c.args.first c.args.dest.now some (omega arith) _ _ _ (rw (behind-code c.args.first c.args.dest.now some (omega arith)) at c.write_zeros_at_codes.ensures)

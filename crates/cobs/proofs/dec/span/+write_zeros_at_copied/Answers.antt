@@ -30,6 +30,7 @@ pub write_zeros_at_copied-requires : goal.write_zeros_at_copied-requires
 write_zeros_at_copied-requires t c =
     let nz = c.requires.nonzero in
     let dest : List ℕ = c.args.dest.now in
+    -- `dest` is as long as `copied` (`same`), and a code isn't 0 (`some`)
     let same = long c.args.copied.now dest c.args.sentinel c.requires.copied in
     let some : 0 < c.args.first = omega (arith, All-head (λ b. b ≢ 0) c.args.first dest nz) in
     let is = behind-code c.args.first dest some (omega arith) in
@@ -44,8 +45,10 @@ write_zeros_at_copied-requires t c =
 pub returns : goal.returns
 returns t c =
     let dest : List ℕ = c.args.dest.now in
+    -- `dest` is as long as `copied` (`same`), and a code isn't 0 (`some`)
     let same = long c.args.copied.now dest c.args.sentinel c.requires.copied in
     let some : 0 < c.args.first = omega (arith, All-head (λ b. b ≢ 0) c.args.first dest c.requires.nonzero) in
+    -- the next code, as it was read from `copied`, and the bytes after it (`is`), which the recursive call got
     let code = code-is c.args.copied.now dest c.args.sentinel c.requires.copied (c.args.first - 1) (omega arith) in
     let is = behind-code c.args.first dest some (omega (arith, same)) in
     walked-next c.args.first dest some (omega (arith, same)) _ _ _ (rw (is, ← code) at c.write_zeros_at_copied.ensures)

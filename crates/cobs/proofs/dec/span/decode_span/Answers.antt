@@ -34,18 +34,22 @@ module _ (source dest rest : List ℕ) (s : ℕ) (some : 0 < length source) (cop
   -- block are missing
   piece : length source ≤ 65 → get_or source 0 0 ≢ s → HasNoZero (xor_each s (take (length source - 1) (drop 1 source))) → {ys : List ℕ} {code left : ℕ} → IsWalked ys code left (bit_xor (get_or source 0 0) s) (bit_xor (get_or source 0 0) s - 1) behind
       → (ys ≡ output (xor_each s source)) × (left ≡ missing (last_part (xor_each s source)))
+  -- The first code isn't 0: otherwise the first byte would be s, because a second XOR with s restores the byte
+  -- (`xor_twice`). The other bytes aren't 0 either (`nz`).
   piece few other nz w = rw source-is (as_piece _ _ w (omega (arith, long))
       (All-cons (λ b. b ≢ 0) _ behind (λ e. other (sym (xor_twice (get_or source 0 0) s) ∙ ap (λ (x : ℕ). bit_xor x s) e)) (rw behind-is (rw (take_rest source 1) at nz))))
 
 -- `copy_xored_short` found a zero, so the clause `taken` doesn't apply
 pub returns-then-not-copy_xored_short-clause-taken : goal.returns-then-not-copy_xored_short-clause-taken
 returns-then-not-copy_xored_short-clause-taken c few room nz =
+    -- the XORed bytes after the first one have no zero, so `copy_xored_short` would have copied them
     c.if-not-copy_xored_short.ensures.taken (rw (rest_xored c.args.source.now c.args.sentinel 1) (All-drop (λ b. b ≢ 0) 1 (xor_each c.args.sentinel c.args.source.now) nz))
 
 -- after all steps, the output of the source is in `dest`, and the number of missing bytes is returned
 module _ (c : goal.After-slice_known-3-1) where
   -- what `piece` says of this call
   decoded : (c.write_zeros_by_rows-left.new.dest ≡ output (xor_each c.args.sentinel c.args.source.now)) × (c.write_zeros_by_rows-left.result.1 ≡ missing (last_part (xor_each c.args.sentinel c.args.source.now)))
+  -- `copy_xored_short` copied the bytes, none of them is a zero, and `write_zeros_by_rows` walked over them
   decoded = piece c.args.source.now c.copy_xored_short.new.dest _ c.args.sentinel (omega arith) (c.if-not-copy_xored_short.ensures.copied refl) (omega arith) c.if-source-sentinel.false (c.if-not-copy_xored_short.ensures.nonzero refl) c.write_zeros_by_rows-left.ensures
 
 -- the output has one byte fewer than the source

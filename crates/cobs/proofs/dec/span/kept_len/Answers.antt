@@ -43,6 +43,7 @@ module _ (bytes : List ℕ) (s at : ℕ) (here : at < length bytes) (h : List �
   -- if 32 blocks without bytes follow, a block ends after them
   row : at + 32 ≤ length bytes → take 32 (drop at bytes) ≡ replicate 32 (bit_xor 1 s) → missing (last_part (take (start + (at + 32)) h)) ≡ 0
   row fits ones =
+      -- the 32 bytes of h at this place are codes 1, so `ends-ones` applies
       let e : take 32 (drop (start + at) h) ≡ replicate 32 1 = rw (← drop-drop, is, drop-map) (ones_xored (drop at bytes) s 32 ones) in
       grind (arith, ends-ones 32 h (start + at), long)
 

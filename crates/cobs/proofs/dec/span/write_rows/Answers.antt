@@ -15,10 +15,11 @@ by_row-preserved c =
     let byte : ℕ = c.args.byte in
     record {
       within = omega arith;
-      -- the bytes of this row equal `byte` too
+      -- the first `len` bytes equal `byte` by the invariant, and the 32 bytes of this row do so by `is_all`
       rows = take-add len 32 bytes ∙ ap (λ (x : List ℕ). x ++ take 32 (drop len bytes)) i.rows
           ∙ ap (λ (x : List ℕ). replicate len byte ++ x) (c.is_all.ensures c.if-is_all.true) ∙ replicate-append-replicate len 32 byte;
-      -- 32 more zeros are written after those so far
+      -- `write_row` writes 32 zeros after the `len` zeros of the invariant; these two writes are a single write of both
+      -- (`three-next`), and both together are len + 32 zeros
       written = c.write_row.ensures ∙ ap (λ (x : List ℕ). take (at + len) x ++ (replicate 32 0 ++ drop (at + len + 32) x)) i.written
           ∙ three-next c.args.dest.now (replicate len 0) at len (length-replicate len 0) (omega (arith, c.min.ensures, c.saturating_sub.ensures)) (replicate 32 0) 32
           ∙ ap (λ (x : List ℕ). take at c.args.dest.now ++ (x ++ drop (at + (len + 32)) c.args.dest.now)) (replicate-append-replicate len 32 0);

@@ -39,9 +39,11 @@ module _ (n : ℕ) (copied dest new : List ℕ) (s : ℕ) (is : dest ≡ xor_eac
   goes_on : (ys : List ℕ) (code left : ℕ) → IsWalked ys code left 1 0 (take (length new - n) (drop n new))
       → IsWalked (put_mid n (length new - n) new ys) code left 1 0 dest
   goes_on ys code left walk =
+      -- `new` begins with n zeros (`front`), and no byte follows the bytes that `ys` replaces (`none`, by `whole`)
       let front : take n new ≡ replicate n 0 = rw written (take_at (replicate n 0) (drop (0 + n) dest) n (length-replicate n 0)) in
       let whole : length new ≡ length dest = omega (arith, ap length written, length-append (replicate n 0) (drop (0 + n) dest), length-replicate {A = ℕ} n 0, length-drop (0 + n) dest, long) in
       let none : drop (length new - n) (drop n new) ≡ [] = drop_all (length new - n) (drop n new) (omega (arith, length-drop n new)) in
+      -- the walk over `dest` makes n zeros of the rows, and then is the walk over the bytes after them
       let w = row_walked n dest ones in
       rw (front, none, append-nil ys, w, ← behind-is, ← walk) refl
 
@@ -51,6 +53,7 @@ module _ (c : Then-taken-ne0) where
       ≡ xor_each c.args.sentinel (take (length c.args.copied.now - c.write_rows-taken.result) (drop c.write_rows-taken.result c.args.copied.now)))
       × HasNoZero (1 ∷ take (length c.write_rows-taken.new.dest - c.write_rows-taken.result) (drop c.write_rows-taken.result c.write_rows-taken.new.dest))
   after_rows =
+      -- `write_rows` found the rows and wrote the zeros; `nonzero` is used without its first element, the code `first`
       let rows = c.write_rows-taken.ensures in
       rest _ c.args.copied.now c.args.dest.now _ c.args.sentinel c.requires.copied rows.within rows.rows rows.written (All-tail (λ b. b ≢ 0) c.args.first c.args.dest.now c.requires.nonzero)
 
@@ -66,5 +69,6 @@ write_zeros_at_copied-requires-clause-nonzero c = (after_rows (goal.at.write_zer
 pub returns-then-taken-ne0 : goal.returns-then-taken-ne0
 returns-then-taken-ne0 c =
     let rows = c.write_rows-taken.ensures in
+    -- the code before the bytes is 1, and the walk of `goes_on` begins with this code
     rw c.if-first-eq1.true (goes_on _ c.args.copied.now c.args.dest.now _ c.args.sentinel c.requires.copied rows.within rows.rows rows.written
     _ _ _ c.write_zeros_at_copied.ensures)

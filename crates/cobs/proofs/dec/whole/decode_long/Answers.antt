@@ -81,6 +81,7 @@ pub returns-then-rest-len-ne0-clause-returned : goal.returns-then-rest-len-ne0-c
 returns-then-rest-len-ne0-clause-returned c =
     let at = (goal.at.returns-then-rest-len-ne0-clause-returned c).After-take_run-len in
     let long = too-long at c.if-len-rest.true c.if-rest-len-ne0.true in
+    -- the outcome is `TooLong`, an error; for an error the length of the piece doesn't matter, so 0 stands for it
     answer-by _ _ _ _ 0 _ (omega arith) (found at) refl (sym (ap outcome_result (outcome_of_long _ _ long.0))) tt
 
 -- the output of the piece is too long, so its first bytes fill the buffer
@@ -100,6 +101,7 @@ returns-clause-returned c =
     -- the result is the report with the result of `message_len` (m)
     let is : c.map.result ≡ report_result c.min-parsed_size.result c.message_len-result.result = search rules in
     let m = c.message_len-result.ensures in
+    -- the decoder's numbers and m give the outcome (`result-by`), and the outcome gives the result (`answer-by`)
     is ∙ answer-by _ _ _ _ _ _ (omega arith) (found at) (omega arith)
     (result-by _ _ _ _ _ (front at).begins w.fits counts.0 counts.1 m.whole m.broken) (always _ (count at end))
 

@@ -73,6 +73,8 @@ returns-clause-returned c =
     let e = c.in_ok-left.ensures in
     let answer : c.map.result ≡ report_result (length (source c)) c.message_len.result = search rules in
     let parsed : length (source c) ≡ min (length (source c)) (leading_zeros (source c) + len c + 1) = omega (arith, no_leading (source c) (first c), c.len_without_end-len.ensures.last) in
+    -- the numbers of p give the outcome of p (`result-by`), and p is the head of the source (`is`); the outcome of the
+    -- first piece gives the result (`answer-by`)
     answer ∙ answer-by (source c) (head (source c)) _ _ (len c) _ (omega (arith, e.some, long c, c.len_without_end-len.ensures.within)) (found c) parsed
     (subst (λ (l : List ℕ). c.message_len.result ≡ outcome_result (outcome_of l (length c.args.dest.now))) (is c)
     (result-by (p c) _ _ _ _ (omega (arith, e.some, ap length (same c))) (omega (arith, e.room)) (omega (arith, e.len, long c)) e.left c.message_len.ensures.whole c.message_len.ensures.broken))

@@ -28,6 +28,7 @@ module _ (bytes : List ℕ) (s i : ℕ) (within : i < length bytes) where
     -- if the byte at index i ends no piece, no piece has ended in the first i + 1 bytes
     next : {buffer' : List ℕ} {phase' : Phase} {result : Result (Option ℕ) DecodeError} (byte : ℕ) → bit_xor (get_or bytes i 0) s ≡ byte → Feeds buffer phase byte result buffer' phase'
         → (byte ≡ 0 → end_reported result ≡ None) → TakesPiece old first (take (i + 1) (xor_each s bytes)) None buffer' phase'
+    -- the byte at index i of the XORed bytes is `byte` (`coded`, `is`)
     next byte is fed none = piece-more _ _ inside so_far (rw (coded, is) fed) (λ z. none (sym is ∙ sym coded ∙ z))
 
     -- if the byte at index i is a zero that ends a piece, the call returns this end
@@ -42,6 +43,7 @@ by_byte-init c = piece-nothing _ _
 -- a nonzero byte, after which the piece isn't too long
 pub by_byte-preserved-else-here-ne0 : goal.by_byte-preserved-else-here-ne0
 by_byte-preserved-else-here-ne0 c =
+    -- `take_byte` makes the machine's step, and a byte that isn't a zero reports no end (the last argument)
     let e = c.take_byte.ensures in
     let nonzero = c.if-byte-ne0.true in
     next _ _ _ c.by_byte-test.true c.by_byte.invariant _ refl (Feeds-as refl (e.phase nonzero) (e.buffer nonzero)) (grind arith)
@@ -49,12 +51,14 @@ by_byte-preserved-else-here-ne0 c =
 -- a zero that ends no piece, because none has begun
 pub by_byte-preserved : goal.by_byte-preserved
 by_byte-preserved c =
+    -- `reported` returned `None`, so the machine's result for the zero reports no end
     let none = ap end_reported (grind arith) ∙ sym c.reported.ensures.end ∙ c.in_default.is in
     rw c.end.ensures.idle (next _ _ _ c.by_byte-test.true c.by_byte.invariant 0 c.if-byte-ne0.false (Feeds-zero _ _) (λ _. none))
 
 -- a zero that ends a piece
 pub returns-in-Some : goal.returns-in-Some
 returns-in-Some c =
+    -- `reported` returned an end, so the machine's result for the zero reports this end
     let end = ap end_reported (grind arith) ∙ sym c.reported.ensures.end ∙ c.in-Some.is in
     record { takes = ended _ _ _ c.by_byte-test.true c.by_byte.invariant c.if-byte-ne0.false (Feeds-zero _ _) _ end }
 
@@ -62,8 +66,10 @@ returns-in-Some c =
 -- because the piece was too long before the call
 pub to_end-init : goal.to_end-init
 to_end-init c = elim c.if-here-eq0.branch [
+  -- after the last byte: no byte is left
   | goal.then-here-eq0+else-by_byte-test w ↦
       rw (w.dest-is, w.here-is, w.taken-is) (grind arith)
+  -- after a byte that made the piece too long: the phase is `Overlong`, since `too_long` isn't 0 (`over_is`)
   | goal.then-here-eq0+then-by_byte-test+then-byte-ne0+then-here-ne0 w ↦
       let e = w.take_byte.ensures in
       let nonzero = w.if-byte-ne0.true in
@@ -71,6 +77,7 @@ to_end-init c = elim c.if-here-eq0.branch [
         none_ended = next _ _ _ w.by_byte-test.true w.by_byte.invariant _ refl (Feeds-as refl (e.phase nonzero) (e.buffer nonzero)) (grind arith);
         overlong = grind (arith, over_is);
       })
+  -- the piece was too long before the call, and no byte is taken yet
   | goal.else-here-eq0 w ↦ rw (w.dest-is, w.here-is, w.taken-is) (record { none_ended = piece-nothing _ _; overlong = λ _. over_is c.args.self.now w.if-here-eq0.false })
 ]
 
@@ -78,6 +85,7 @@ to_end-init c = elim c.if-here-eq0.branch [
 pub returns-then-byte-eq0 : goal.returns-then-byte-eq0
 returns-then-byte-eq0 c =
     let more = c.to_end-test.true in
+    -- the phase before this zero is `Overlong`, and no piece has ended before it
     let taken = rw (c.to_end.invariant.overlong more) at c.to_end.invariant.none_ended in
     record { takes = ended _ _ _ more taken c.if-byte-eq0.true (Feeds-zero _ Overlong) TooLong refl }
 
@@ -88,6 +96,7 @@ to_end-preserved c =
     let over = c.to_end.invariant.overlong more in
     let taken = rw over at c.to_end.invariant.none_ended in
     record {
+      -- the phase stays `Overlong`, and a byte that isn't a zero reports no end
       none_ended = rw over (next _ _ _ more taken _ refl (Feeds-overlong _ _ c.if-byte-eq0.false) (grind arith));
       overlong = λ _. over;
     }

@@ -43,6 +43,7 @@ returns-then-not-has_vectors c = grind (arith, xor_each-zero)
 -- `take_front` took all bytes, and no piece ended
 pub returns-then-is_all : goal.returns-then-is_all
 returns-then-is_all c =
+    -- the bytes that `take_front` fed quietly are all bytes (`all`), so no piece ends in them (`piece-all`)
     let all = take_all c.front_len-front.result c.args.bytes.now (omega arith) in
     record { takes = piece-all _ _ _ _ _ (rw all at c.take_front.ensures.fed c.if-take_front.true) }
 
@@ -63,6 +64,7 @@ returns-then-take_front c =
     let front : TakesPiece c.args.dest.now (phase_of c.args.self.now) (take len bytes) None c.take_front.new.dest between =
     piece-all _ _ _ _ _ (c.take_front.ensures.fed c.if-take_front.true) in
     let last : Feeds c.take_front.new.dest between (get_or bytes len 0) c.feed.result c.feed.new.dest (phase_of c.feed.new.self) = rw zero c.feed.ensures.feeds in
+    -- the end that the call returns is the one that the result of `feed` for the zero reports
     record { takes = piece-ended _ _ within front last _ zero (sym c.in_ok-end.ensures.end) }
 
 -- `take_short` took all bytes, and no piece ended
@@ -78,12 +80,14 @@ kept c = grind arith
 pub returns-then-bytes-le-FEW : goal.returns-then-bytes-le-FEW
 returns-then-bytes-le-FEW c =
     let same = kept (goal.at.returns-then-bytes-le-FEW c).Joined-bytes-gt-VERY_FEW in
+    -- `feed_each` began with the buffer and the decoder of this call (`same`); the XOR with 0 changes nothing
     record { takes = rw (same.0, same.1, xor_each-zero c.args.bytes.now) at c.feed_each-then-bytes-le-FEW.ensures.takes }
 
 -- `take_to_end` took all bytes, and no piece ended
 pub returns-then-taken-bytes : goal.returns-then-taken-bytes
 returns-then-taken-bytes c =
     let same = kept (goal.at.returns-then-taken-bytes c).Joined-bytes-gt-VERY_FEW in
+    -- `take_to_end` took all bytes (`all`), beginning with the buffer and the decoder of this call (`same`)
     let all = take_all c.take_to_end-taken.result c.args.bytes.now (omega arith) in
     record { takes = rw (same.0, same.1, all) at c.take_to_end-taken.ensures.none_ended }
 
@@ -91,6 +95,7 @@ returns-then-taken-bytes c =
 pub returns-in_err-last : goal.returns-in_err-last
 returns-in_err-last c =
     let within : c.take_to_end-taken.result < length c.args.bytes.now = omega (arith, c.take_to_end-taken.ensures.within) in
+    -- before the zero a piece had begun (`begun`), so the result for the zero reports an end, but none was reported
     absurd (end_begun _ _ (c.take_to_end-taken.ensures.begun within) (ap end_reported (sym c.end.ensures.returned) ∙ sym c.in_err-last.ensures.end))
 
 -- `take_to_end` took the bytes before the zero that ends the piece, and the zero ends it
@@ -107,4 +112,5 @@ returns c =
     -- no piece ends in the bytes before the zero, and then the zero is fed
     let front : TakesPiece c.args.dest.now (phase_of c.args.self.now) (take taken bytes) None buffer between = rw (same.0, same.1) at c.take_to_end-taken.ensures.none_ended in
     let last : Feeds buffer between (get_or bytes taken 0) (end_result (length buffer) between) buffer Idle = rw zero (Feeds-zero buffer between) in
+    -- the end that the call returns is the one that the machine's result for the zero reports
     record { takes = rw c.end.ensures.idle (piece-ended _ _ within front last _ zero (ap end_reported (sym c.end.ensures.returned) ∙ sym c.in_ok-last.ensures.end)) }

@@ -18,4 +18,5 @@ returns-clause-none_ended c buffer phase before =
     -- after the byte at index `start`, the phase is `Overlong`, and no piece has ended (`one`)
     let over : phase_of c.take_byte.new.self ≡ Overlong = grind arith in
     let one = piece-more bytes c.args.start c.requires.start before (Feeds-as refl (c.take_byte.ensures.phase nz) (c.take_byte.ensures.buffer nz)) (λ z. absurd (nz z)) in
+    -- the bytes after it, up to the next zero, have no zero, so the piece stays too long
     rw over (piece-over bytes next _ (omega (arith, e.within, length-take (length bytes - next) (drop next bytes), length-drop next bytes)) (grind (arith, take_rest)) (rw over at one))

@@ -10,6 +10,7 @@ use Rattle.cobs.proofs.dec.unbuffered.UnbufferedDecoder.push.Goals.{else-has_vec
 pub returns-then-take_short : goal.returns-then-take_short
 returns-then-take_short c =
     let bytes : List ℕ = c.args.bytes.now in
+    -- all bytes were fed quietly, so each of them returned `Ok(None)`
     let fed = pushed_fed bytes 0 (length bytes) (omega arith) (Pushed-start _ _ _) (rw (← take-length bytes) at c.take_short.ensures.fed c.if-take_short.true) in
     record { pushes = pushed_none bytes _ (omega arith) fed }
 

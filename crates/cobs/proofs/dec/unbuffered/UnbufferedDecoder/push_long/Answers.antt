@@ -20,6 +20,7 @@ ran c = pushed_fed c.args.bytes.now _ _ (grind (arith, length-take)) c.by_run.in
 pub by_run-preserved-in-Ok-None : goal.by_run-preserved-in-Ok-None
 by_run-preserved-in-Ok-None c = record {
   within = omega arith;
+  -- the bytes up to the end of the run returned `Ok(None)` (`ran`), and so did this byte
   pushed = Pushed-more _ _ c.if-at-bytes.true (ran (goal.at.by_run-preserved-in-Ok-None c).After-take_at_once-at) c.feed.ensures.feeds (c.in-Ok-None.is ∙ ap Ok c.in-Ok-None.field-0-is);
 }
 

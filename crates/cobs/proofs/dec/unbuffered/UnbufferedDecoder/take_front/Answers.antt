@@ -34,10 +34,12 @@ module _ (bytes dest copied : List ℕ) (some : 1 < length bytes) (few : length 
 
   -- the buffer begins with the bytes after the first code
   front-is : take (length bytes - 1) copied ≡ codes
+  -- the bytes after the first one were written to the front (`is`), and there are `length codes` of them (`long`)
   front-is = rw (is, take_rest bytes 1) (ap (λ (i : ℕ). take i (over 0 dest codes)) (sym long) ∙ take-append_seam codes _)
 
   -- the other bytes of the buffer are as they were
   behind-is : drop (length bytes - 1) copied ≡ drop (0 + length codes) dest
+  -- after as many bytes, `copied` has the bytes of `dest`
   behind-is = rw (is, take_rest bytes 1) (ap (λ (i : ℕ). drop i (over 0 dest codes)) (sym long) ∙ drop-append_seam codes (drop (0 + length codes) dest))
 
   -- no byte is a zero
@@ -50,6 +52,7 @@ module _ (bytes dest copied : List ℕ) (some : 1 < length bytes) (few : length 
       → IsWalked ys code left first (first - 1) (take (length bytes - 1) copied) → eqb joint 0 ≡ eqb code 255
       → FeedsQuietly dest Idle bytes (ys ++ drop (length bytes - 1) copied) (phase_with (eqb joint 0) left (length bytes - 1))
   fed room ys code left joint walk due =
+      -- the walk is over `codes` (w), so `fed_piece` says that the first code and `codes` are fed (f)
       let w = rw front-is at walk in
       let f = fed_piece first codes dest w (omega (arith, long, few)) nonzero (omega (arith, long, room)) in
       let same : length ys ≡ length codes = ap (λ (v : List ℕ × ℕ × ℕ). length v.0) w ∙ length-walked first (first - 1) codes in
@@ -57,6 +60,7 @@ module _ (bytes dest copied : List ℕ) (some : 1 < length bytes) (few : length 
       let buffer : over 0 dest ys ≡ ys ++ drop (length bytes - 1) copied = rw (behind-is, same) refl in
       let phase : phase_with (eqb joint 0) left (length bytes - 1) ≡ Within (eqb code 255) left (length codes)
       = rw (due, long) (phase_with-begun (eqb code 255) left (length bytes - 1) (omega (arith, some))) in
+      -- f is about the first code and `codes`, which are `bytes` (`are`)
       rw (phase, ← buffer) (subst (λ xs. FeedsQuietly dest Idle xs (over 0 dest ys) (Within (eqb code 255) left (length codes))) (sym are) f)
 
 -- the front of the buffer has the bytes after the first code, as `write_zeros_by_rows` requires; the XOR with 0

@@ -14,6 +14,7 @@ pub take_part_in_place-at-requires-clause-nonzero : goal.take_part_in_place-at-r
 take_part_in_place-at-requires-clause-nonzero c =
     let a = c.args in
     let i = c.by_step.invariant in
+    -- the bytes from `at` on are those from before the call (`rest_read`), and these have no zero
     subst (λ (l : List ℕ). HasNoZero (take (a.end - c.by_step.at) l)) (sym (rest_read a.buffer.now c.by_step.buffer a.self.now c.by_step.self a.read c.by_step.at a.end i.started i.within c.requires.nonzero i.fed i.behind))
     (part-nonzero (c.by_step.at - a.read) (a.end - c.by_step.at) (a.end - a.read) (drop a.read a.buffer.now) c.requires.nonzero (omega arith))
 
@@ -31,6 +32,7 @@ by_step-preserved c =
     = subst (λ (l : List ℕ). FeedsQuietly c.by_step.buffer (phase_of c.by_step.self) (take n l) new.buffer (phase_of new.self))
     (rest_read a.buffer.now c.by_step.buffer a.self.now c.by_step.self a.read c.by_step.at a.end i.started i.within c.requires.nonzero i.fed i.behind) e.fed in
     record {
+      -- the bytes up to index `at` are fed (`i.fed`), and then the n bytes of this step (`more`)
       fed = subst (λ (k : ℕ). FeedsQuietly a.buffer.now (phase_of a.self.now) (take k bytes) new.buffer (phase_of new.self)) (omega arith)
           (FeedsQuietly-more bytes a.buffer.now c.by_step.buffer new.buffer (phase_of a.self.now) (phase_of c.by_step.self) (phase_of new.self) (c.by_step.at - a.read) n i.fed more);
       going = e.going;

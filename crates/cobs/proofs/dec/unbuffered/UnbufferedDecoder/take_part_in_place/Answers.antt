@@ -16,6 +16,7 @@ take_moved-requires-clause-nonzero c =
     let n : ℕ = c.span_len-len.result in
     let bytes : List ℕ = drop c.args.read c.args.buffer.now in
     let long = length-take-le n bytes (omega (arith, length-drop c.args.read c.args.buffer.now)) in
+    -- the bytes after the output are now the next n bytes of the frame (`copied-there`)
     rw (sym (copied-there c.args.self.now.written n c.args.buffer.now c.move_back-2.new.buffer (take n bytes) (omega arith) long c.move_back-2.ensures)) at (part-nonzero 0 n _ bytes c.requires.nonzero (omega arith))
 
 -- a code and the n bytes of its block
@@ -32,11 +33,13 @@ returns-then-code-gt-WIDE_WINDOW-clause-fed c =
     let kept : drop (c.args.read + 1) joint.dest ≡ drop 1 bytes
     = rest_kept (take 1 bytes) c.args.buffer.now joint.dest c.args.self.now joint.self (c.args.read + 1) (part-nonzero 0 1 _ bytes c.requires.nonzero (omega arith)) f (omega arith) ∙ sym (drop-drop 1 c.args.read c.args.buffer.now) in
     let moved : c.move_back.new.buffer ≡ take joint.self.written joint.dest ++ (take n (drop 1 bytes) ++ drop (joint.self.written + n) joint.dest) = rw (sym kept) c.move_back.ensures in
+    -- the code is fed (f), and then the n bytes of its block, which were written after the output (`block_fed`)
     FeedsQuietly-more bytes _ _ _ _ _ _ 1 n f (block_fed joint.self n joint.dest (drop 1 bytes) c.move_back.new.buffer c.take_joint.ensures.going (omega arith) (omega arith) (omega (arith, length-drop 1 bytes, length-drop c.args.read c.args.buffer.now))
     (part-nonzero 1 n _ bytes c.requires.nonzero (omega arith)) moved)
 
 -- a row of 32 blocks without bytes
 pub returns-then-is_all-clause-fed : goal.returns-then-is_all-clause-fed
+-- the block before the row isn't full (clause `full` of `span_len`), and the codes of the row are 1 (`is_all`)
 returns-then-is_all-clause-fed c = row_fed 32 c.args.self.now c.args.buffer.now _ _ (omega arith) (omega arith) c.requires.going c.if-missing-eq0-3.true (λ e. absurd (omega (arith, c.span_len-len.ensures.full e))) (omega arith) (c.is_all.ensures c.if-is_all.true) c.write_row.ensures
 
 -- a span, which `take_moved` takes

@@ -50,4 +50,5 @@ returns-clause-fed c =
     let within : n ≤ length bytes = omega arith in
     let room : c.args.self.now.written + n ≤ length c.args.dest.now = omega arith in
     let fed = rw (length-take-le n bytes within) at c.take_copied.ensures.fed in
+    -- `take_copied` is about the first n bytes, XORed (`long`), which were written to `dest` after the output (`put`)
     fed c.args.dest.now _ room (long bytes c.args.dest.now _ c.args.sentinel n _ within room c.copy_xored.ensures) (put bytes c.args.dest.now _ c.args.sentinel n _ within room c.copy_xored.ensures)

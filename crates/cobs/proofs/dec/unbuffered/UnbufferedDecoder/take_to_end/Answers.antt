@@ -30,6 +30,7 @@ returns-then-taken-bytes-clause-begun c within =
       | then-taken-bytes-via-then-taken-bytes w ↦ absurd (omega (arith, within, w.if-taken-bytes.true))
       | then-taken-bytes-via-else-taken-bytes+then-bytes-taken-eq0 w ↦ w.if-bytes-taken-eq0.true
     ] in
+    -- the run has no zero and is fed quietly; if no piece was open before it, it isn't empty (last argument)
     open-after (take run (drop start bytes)) _ _ _ _ (rw take_rest at e.nonzero) (rw take_rest at e.fed) (λ idle. grind (arith, c.zeros_outside-start.ensures.next, length-take, length-drop))
 
 -- the next byte has no room, so `pass_to_end` skips the rest of the piece
