@@ -2,6 +2,7 @@
 -- results of `decode` and `decode_with_sentinel` for such a buffer give the values of `decoded` (`decoded-message`,
 -- `decoded-rejected`) and `decoded_head` (`decoded_head-message`, `decoded_head-rejected`).
 use Rattle.std.proofs.Common.{◌≡◌, ◌≢◌, ℕ, zero, suc, ◌<◌, ◌≤◌, List, [], ◌∷◌, length, take, Option, Some, None, Result, Ok, Err, if◌then◌else◌, arith, take_at, take_all, length-take}
+use Rattle.std.specs.Result.{IfOk, IsErrAnd, MatchResult}
 use Rattle.cobs.specs.Overwritten.{overwritten}
 use Rattle.cobs.specs.Piece.{output, is_whole, kept_output}
 use Rattle.cobs.specs.Stream.{outcome_of, first_piece, head}
@@ -13,6 +14,13 @@ use Rattle.cobs.specs.declared.error.DecodeError.TheVariants.{InvalidFrame, Targ
 use Rattle.cobs.proofs.decoding.OutcomeLemmas.{output_within, first_piece_head, length-head}
 use Rattle.cobs.proofs.decoding.OutcomeSteps.{result_by_piece}
 use Rattle.cobs.proofs.decoding.SourceSteps.{result-fits}
+
+-- what is known of an `Ok` value stays known of it after `map_err`, of which `cases` is a clause
+pub kept-ok : {A E F : Type 0} (made : Result A E) (mapped : Result A F) (x : A)
+    → (Known : A → Type 0) (Told : E → F → Type 0) → IfOk made Known
+    → (cases : MatchResult made (λ y. mapped ≡ Ok y) (λ e. IsErrAnd mapped (Told e))) → mapped ≡ Ok x → Known x
+kept-ok (Ok y) mapped x Known Told known cases is = grind arith
+kept-ok (Err e) mapped x Known Told known cases is = grind arith
 
 -- a buffer that has room begins with the bytes that are written
 pub overwritten-begins : (buffer bytes : List ℕ) → length bytes ≤ length buffer → take (length bytes) (overwritten buffer bytes) ≡ bytes

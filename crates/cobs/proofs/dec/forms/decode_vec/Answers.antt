@@ -2,13 +2,14 @@
 -- message's length, are the message (`decoded-message`), and an error of `decode` is the frame's error
 -- (`decoded-rejected`). `reads` and `only` follow by `decoded_reads`.
 use Rattle.std.proofs.Common.{◌≡◌, ◌<◌, length, sym, ap, ◌∙◌, arith, Err, rules, take_at}
+use Rattle.std.specs.Vec.{vec_len}
 use Rattle.std.proofs.lemmas.Bool.{eqb-false}
 use Rattle.cobs.specs.declared.error.DecodeError.{DecodeError}
 use Rattle.cobs.specs.declared.error.DecodeVecError.TheVariants.{Decode}
 use Rattle.cobs.proofs.decoding.HeadlineLemmas.{bytes_below}
 use Rattle.cobs.proofs.decoding.ReadsLemmas.{frame_piece}
 use Rattle.cobs.proofs.decoding.VectorHeadline.{decoded_reads}
-use Rattle.cobs.proofs.decoding.VectorSteps.{decoded-rejected, decoded-message}
+use Rattle.cobs.proofs.decoding.VectorSteps.{kept-ok, decoded-rejected, decoded-message}
 use Rattle.cobs.proofs.dec.forms.decode_vec.Goals as goal
 
 -- the vector, cut to the message's length, is the message of the source
@@ -31,7 +32,11 @@ pub returns-in_err-report : goal.returns-in_err-report
 returns-in_err-report c =
     let some : 0 < length c.args.source.now = grind arith in
     let is : (error : DecodeError) × (c.decode.result ≡ Err error) × (c.from_residual-in_err-report.result ≡ Err (Decode error)) = search rules in
-    let no = decoded-rejected c.args.source.now (length c.deref_mut.result.now) (search rules) is.0 some (sym is.1 ∙ c.decode.ensures.answer) in
+    -- the vector is as long as the source
+    let made : vec_len c.in_ok-message.message ≡ length c.args.source.now =
+        kept-ok c.vec.result c.map_err.result _ (λ v. vec_len v ≡ length c.args.source.now) _
+            c.vec.ensures.len c.map_err.ensures.cases c.in_ok-message.was in
+    let no = decoded-rejected c.args.source.now (length c.deref_mut.result.now) (c.deref_mut.ensures.len ∙ made) is.0 some (sym is.1 ∙ c.decode.ensures.answer) in
     rw is.2 (record {
       -- the clause `message` says nothing about an error
       message = tt;

@@ -2,6 +2,7 @@
 -- cut to the message's length, are the message (`decoded_head-message`), and an error of that call is the frame's error
 -- (`decoded_head-rejected`). `reads` and `only` follow by `decoded_head_reads`.
 use Rattle.std.proofs.Common.{◌≡◌, ◌<◌, ℕ, length, sym, ap, ◌∙◌, arith, bit_xor, Err, rules, take_at}
+use Rattle.std.specs.Vec.{vec_len}
 use Rattle.std.proofs.lemmas.List.{length-map}
 use Rattle.std.proofs.lemmas.Bool.{eqb-false}
 use Rattle.cobs.specs.Sentinel.{xor_each}
@@ -10,7 +11,7 @@ use Rattle.cobs.specs.declared.error.DecodeVecError.TheVariants.{Decode}
 use Rattle.cobs.proofs.decoding.HeadlineLemmas.{xored_below}
 use Rattle.cobs.proofs.decoding.ReadsLemmas.{frame_piece}
 use Rattle.cobs.proofs.decoding.VectorHeadline.{decoded_head_reads}
-use Rattle.cobs.proofs.decoding.VectorSteps.{decoded_head-rejected, decoded_head-message}
+use Rattle.cobs.proofs.decoding.VectorSteps.{kept-ok, decoded_head-rejected, decoded_head-message}
 use Rattle.cobs.proofs.dec.forms.decode_vec_with_sentinel.Goals as goal
 
 -- the vector, cut to the message's length, is the message of the bytes before the first sentinel
@@ -34,7 +35,10 @@ returns-in_err-len c =
     let some : 0 < length c.args.source.now = grind arith in
     let is : (error : DecodeError) × (c.decode_with_sentinel.result ≡ Err error) × (c.from_residual-in_err-len.result ≡ Err (Decode error)) = search rules in
     -- the vector is as long as the source (`long`), and so as long as the XORed source (`changed`)
-    let long : length c.deref_mut.result.now ≡ length c.args.source.now = search rules in
+    let made : vec_len c.in_ok-message.message ≡ length c.args.source.now =
+        kept-ok c.vec.result c.map_err.result _ (λ v. vec_len v ≡ length c.args.source.now) _
+            c.vec.ensures.len c.map_err.ensures.cases c.in_ok-message.was in
+    let long : length c.deref_mut.result.now ≡ length c.args.source.now = c.deref_mut.ensures.len ∙ made in
     let changed = length-map c.args.source.now (λ (b : ℕ). bit_xor b c.args.sentinel) in
     let no = decoded_head-rejected (xor_each c.args.sentinel c.args.source.now) _ (long ∙ sym changed) is.0 (omega arith) (sym is.1 ∙ c.decode_with_sentinel.ensures.answer) in
     rw is.2 (record {
