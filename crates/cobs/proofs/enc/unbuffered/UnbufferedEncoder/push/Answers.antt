@@ -1,9 +1,11 @@
--- Only the clause `fits` is proved here: the length of the frame of all bytes so far is `end_after` (`after-end`), so
--- there is room for the frame exactly if there is room up to that index, on each way out.
+-- Only the clauses `fits`, `taken` and `rest` are proved here. `taken` and `rest` follow from the step that has taken
+-- the bytes (`all-after`, `all-rest`), whose progress `set` copies to the encoder. For `fits`, the length of the frame
+-- of all bytes so far is `end_after` (`after-end`), so there is room for the frame exactly if there is room up to that
+-- index, on each way out.
 use Rattle.std.proofs.Common.{append-nil, [], ◌≡◌, refl, arith}
 use Rattle.std.proofs.lemmas.Grind.{common_steps}
 use Rattle.cobs.proofs.encoding.AfterLemmas.{after-end, after-fits, after-place}
-use Rattle.cobs.proofs.encoding.TakingLemmas.{all-end, short_room}
+use Rattle.cobs.proofs.encoding.TakingLemmas.{all-after, all-end, all-rest, short_room}
 use Rattle.cobs.proofs.enc.unbuffered.UnbufferedEncoder.push.Goals as goal
 
 -- the state is impossible in this slice, so the encoder can't have taken a message
@@ -28,6 +30,12 @@ returns-then-self-bytes-clause-fits c = λ m h.
     let end = all-end c.append_short.ensures in
     (λ t. omega arith, λ le. refl)
 
+pub returns-then-self-bytes-clause-taken : goal.returns-then-self-bytes-clause-taken
+returns-then-self-bytes-clause-taken c = λ m h. rw c.set.ensures (all-after c.append_short.ensures m h)
+
+pub returns-then-self-bytes-clause-rest : goal.returns-then-self-bytes-clause-rest
+returns-then-self-bytes-clause-rest c = rw c.set.ensures (all-rest c.append_short.ensures)
+
 -- `try_append` has refused the bytes, so the frame doesn't fit
 pub returns-then-not-try_append-clause-fits : goal.returns-then-not-try_append-clause-fits
 returns-then-not-try_append-clause-fits c = λ m h.
@@ -37,3 +45,9 @@ returns-then-not-try_append-clause-fits c = λ m h.
 -- the bytes are taken, so the frame fits
 pub returns-clause-fits : goal.returns-clause-fits
 returns-clause-fits c = grind (arith, after-end)
+
+pub returns-clause-taken : goal.returns-clause-taken
+returns-clause-taken c = λ m h. rw c.set-2.ensures (all-after (c.try_append.ensures.taken cc) m h)
+
+pub returns-clause-rest : goal.returns-clause-rest
+returns-clause-rest c = rw c.set-2.ensures (all-rest (c.try_append.ensures.taken cc))

@@ -1,10 +1,11 @@
--- Only the clause `fits` is proved here, as for `push`: the length of the frame of all bytes so far is `end_after`
--- (`after-end`), and `has_room` compares that index with the slice (`end-with`). An encoder that has taken a message
--- has a possible state (`after-place`), so it takes a push of no bytes.
+-- Only the clauses `fits`, `taken` and `rest` are proved here, as for `push`. For `fits`, the length of the frame of
+-- all bytes so far is `end_after` (`after-end`), and `has_room` compares that index with the slice (`end-with`). An
+-- encoder that has taken a message has a possible state (`after-place`), so it takes a push of no bytes.
 use Rattle.std.proofs.Common.{append-nil, [], ◌≡◌, ◌≢◌, length, refl, arith}
 use Rattle.std.proofs.lemmas.Grind.{common_steps}
 use Rattle.cobs.proofs.encoding.ByteLemmas.{end-with, place-short}
 use Rattle.cobs.proofs.encoding.AfterLemmas.{after-end, after-fits, after-place}
+use Rattle.cobs.proofs.encoding.TakingLemmas.{all-after, all-rest}
 use Rattle.cobs.proofs.enc.unbuffered.UnbufferedEncoder.push_each.Goals as goal
 
 -- the state is impossible in this slice, so the encoder can't have taken a message
@@ -35,3 +36,9 @@ returns-then-not-has_room-clause-fits c = λ m h.
 -- the bytes are taken, so the frame fits
 pub returns-clause-fits : goal.returns-clause-fits
 returns-clause-fits c = grind (arith, after-end)
+
+pub returns-clause-taken : goal.returns-clause-taken
+returns-clause-taken c = λ m h. all-after c.append_each.ensures m h
+
+pub returns-clause-rest : goal.returns-clause-rest
+returns-clause-rest c = all-rest c.append_each.ensures
