@@ -6,10 +6,9 @@ use Rattle.std.proofs.Common.{Err, IfOk, IfSome, List, None, Ok, Option, Result,
 use Rattle.std.proofs.lemmas.List.{take_more, length_push, same_from_push}
 use Rattle.std.proofs.lemmas.Bool.{ne_eqb, eq-eqb, cases_eq}
 use borrow.Author.Count.{below_more}
-use Rattle.std.proofs.lemmas.Grind.{common_steps}
 use Rattle.cobs.specs.Stream.{unended}
 use Rattle.cobs.specs.Feed.{DecoderAfter, Feeds, Idle, Phase, PhaseAfter, result_for}
-use Rattle.cobs.specs.FeedPiece.{TakesPiece}
+use Rattle.cobs.specs.FeedPiece.{TakesPiece, end_reported}
 use Rattle.cobs.specs.Internal.FeedsQuietly.{FeedsQuietly}
 use Rattle.cobs.specs.Push.{FeedsInTurn, PushesBytes, consumed, consumed_size, last_result, pushed_outcomes}
 use Rattle.cobs.specs.Fields.Report.{frame_size_of}
@@ -51,9 +50,9 @@ pub record Pushed (buffer₀ : List ℕ) (phase₀ : Phase) (buffer : List ℕ) 
 -- `FeedsInTurn` holds for xs and this byte
 FeedsInTurn-push : (xs buffer₀ : List ℕ) (phase₀ : Phase) {buffer buffer' : List ℕ} {phase phase' : Phase} {byte : ℕ} {returned : Result (Option ℕ) DecodeError}
     → FeedsInTurn buffer₀ phase₀ xs (Ok None) buffer phase → Feeds buffer phase byte returned buffer' phase' → FeedsInTurn buffer₀ phase₀ (xs ++ byte ∷ []) returned buffer' phase'
-FeedsInTurn-push [] buffer₀ phase₀ {buffer} {buffer'} {phase} {phase'} {byte} {returned} f g = grind arith
-FeedsInTurn-push (x ∷ []) buffer₀ phase₀ {buffer} {buffer'} {phase} f g = grind arith
-FeedsInTurn-push (x ∷ y ∷ xs) buffer₀ phase₀ (between, phase_between, f, more) g = grind (arith, FeedsInTurn-push (y ∷ xs) between phase_between more g)
+FeedsInTurn-push [] buffer₀ phase₀ {buffer} {buffer'} {phase} {phase'} {byte} {returned} f g = rw (f.1, f.2) at g
+FeedsInTurn-push (x ∷ []) buffer₀ phase₀ {buffer} {buffer'} {phase} f g = (buffer, phase, f, g)
+FeedsInTurn-push (x ∷ y ∷ xs) buffer₀ phase₀ (between, phase_between, f, more) g = (between, phase_between, f, FeedsInTurn-push (y ∷ xs) between phase_between more g)
 
 -- before the first byte, `Pushed` holds for i = 0
 pub Pushed-start : (buffer : List ℕ) (phase : Phase) (bytes : List ℕ) → Pushed buffer phase buffer phase bytes 0
@@ -69,20 +68,20 @@ module _ {buffer₀ buffer buffer' : List ℕ} {phase₀ phase phase' : Phase} {
     (s : Pushed buffer₀ phase₀ buffer phase bytes i) (f : Feeds buffer phase (get_or bytes i 0) result buffer' phase') where
   -- the result of this byte is the one that `result_at` states
   result_here : (p : List ℕ) → PhaseAfter (length buffer₀) phase₀ p → result_at p bytes (length buffer₀) i ≡ result
-  result_here p h = grind (arith, phase_so_far)
+  result_here p h = sym (rw s.piece.takes.len at (f.returned _ (phase_so_far s.piece.takes p h)))
 
   -- the field `zero_idle` for the first i + 1 bytes
   zero_behind : (front : List ℕ) → take (i + 1) bytes ≡ front ++ 0 ∷ [] → phase' ≡ Idle
-  zero_behind front e = grind (arith, common_steps, same_from_push, take_more)
+  zero_behind front e = f.zero_idle (same_from_push _ _ _ _ (rw (take_more bytes i 0 within) at e)).1
 
   -- the field `feeds` for the first i + 1 bytes; this byte returns `result`
   feeds_behind : FeedsInTurn buffer₀ phase₀ (take (i + 1) bytes) result buffer' phase'
-  feeds_behind = grind (arith, common_steps, take_more, FeedsInTurn-push)
+  feeds_behind = rw (take_more bytes i 0 within) (FeedsInTurn-push _ buffer₀ phase₀ s.feeds f)
 
   -- if this byte returns `Ok(None)`, the push continues
   pub Pushed-more : result ≡ Ok None → Pushed buffer₀ phase₀ buffer' phase' bytes (i + 1)
   Pushed-more e = record {
-    piece = piece-more bytes i within s.piece f (grind arith);
+    piece = piece-more bytes i within s.piece f (λ _. ap end_reported e);
     quiet = grind (arith, below_more, result_here);
     zero_idle = zero_behind;
     feeds = rw e at feeds_behind;
@@ -97,18 +96,18 @@ module _ {buffer₀ buffer buffer' : List ℕ} {phase₀ phase phase' : Phase} {
       → IfOk r (λ found. IfSome found (λ report. frame_size_of report ≤ length buffer₀)) → PushesBytes buffer₀ phase₀ bytes r buffer' phase'
   ended r count last outcomes bound = let takes = takes_behind bytes i within s.piece f in record {
     -- each byte before this one returned `Ok(None)`, and this one returns `result`
-    push_returns = grind (arith, ends_at, result_here);
-    phased = grind arith;
-    after = grind arith;
-    -- these two fields are stated for the consumed bytes, which are the first i + 1 bytes (`count`)
+    push_returns = rw (count, last) (λ p h place inside. ends_at p bytes _ i place result (s.quiet p h) (result_here p h) inside);
+    -- these fields are stated for the consumed bytes, which are the first i + 1 bytes (`count`)
+    phased = rw (consumed, count) takes.phased;
+    after = rw (consumed, count) takes.after;
     holds = rw (consumed, count) (holds_behind bytes i within s.piece f);
     untouched = rw (consumed, count) (untouched_behind bytes i within s.piece f);
-    outcomes = grind arith;
+    outcomes = λ p h. rw (consumed, count) (sym (takes.outcomes p h) ∙ outcomes p h);
     some = λ _. omega arith;
     within = omega (arith, within);
     bound = bound;
     zero_idle = rw (consumed, count) zero_behind;
-    feeds = grind (arith, feeds_behind);
+    feeds = rw (consumed, count, last) feeds_behind;
     len = takes.len;
   }
 
@@ -132,5 +131,5 @@ pub pushed_fed : {buffer₀ buffer buffer' : List ℕ} {phase₀ phase phase' : 
     → FeedsQuietly buffer phase (take r (drop i bytes)) buffer' phase' → Pushed buffer₀ phase₀ buffer' phase' bytes (i + r)
 -- each byte that returns `Ok(None)` preserves `Pushed` (`Pushed-more`), so all these bytes do (`ran-on`)
 pushed_fed {buffer₀} {phase₀ = phase₀} bytes i r within s f =
-    ran-on (λ buffer phase i. Pushed buffer₀ phase₀ buffer phase bytes i) bytes (λ buffer phase i within s quiet. Pushed-more bytes i within s (grind (arith, Feeds-step)) quiet)
+    ran-on (λ buffer phase i. Pushed buffer₀ phase₀ buffer phase bytes i) bytes (λ buffer phase i within s quiet. Pushed-more bytes i within s (Feeds-step _ _ _) quiet)
     _ _ _ _ i r within s f

@@ -53,7 +53,7 @@ pub piece-run : {buffer₀ buffer buffer' : List ℕ} {phase₀ phase phase' : P
 -- `piece-more` says that a byte that returns `Ok(None)` ends no piece, so `ran-on` applies
 piece-run {buffer₀} {phase₀ = phase₀} bytes i r within t f =
     ran-on (λ buffer phase i. TakesPiece buffer₀ phase₀ (take i bytes) None buffer phase) bytes
-    (λ buffer phase i within t quiet. piece-more bytes i within t (grind (arith, Feeds-step)) (λ _. ap end_reported quiet)) _ _ _ _ i r within t f
+    (λ buffer phase i within t quiet. piece-more bytes i within t (Feeds-step _ _ _) (λ _. ap end_reported quiet)) _ _ _ _ i r within t f
 
 -- no piece ends in bytes that are fed quietly
 pub piece-all : (bytes buffer buffer' : List ℕ) (phase phase' : Phase) → FeedsQuietly buffer phase bytes buffer' phase'

@@ -71,8 +71,8 @@ count-within end buffer t n h e = grind (arith, fits-map)
 -- if the bytes `done` are fed one after another, and then the bytes `more`, `FeedsEach` holds for all of them
 FeedsEach-append : (done more buffer₀ buffer buffer' : List ℕ) (phase₀ phase phase' : Phase) → FeedsEach buffer₀ phase₀ done buffer phase → FeedsEach buffer phase more buffer' phase'
     → FeedsEach buffer₀ phase₀ (done ++ more) buffer' phase'
-FeedsEach-append [] more buffer₀ buffer buffer' phase₀ phase phase' f g = grind arith
-FeedsEach-append (byte ∷ done) more buffer₀ buffer buffer' phase₀ phase phase' f g = grind (arith, (FeedsEach-append done more f.1 buffer buffer' f.2 phase phase' f.4 g))
+FeedsEach-append [] more buffer₀ buffer buffer' phase₀ phase phase' f g = rw (f.0, f.1) at g
+FeedsEach-append (byte ∷ done) more buffer₀ buffer buffer' phase₀ phase phase' f g = (f.0, f.1, f.2, f.3, FeedsEach-append done more f.1 buffer buffer' f.2 phase phase' f.4 g)
 
 -- before any byte, no outcome is reported, and nothing has changed
 pub takes-nothing : (buffer : List ℕ) (phase : Phase) → TakesBytes buffer phase [] [] buffer phase
@@ -102,7 +102,7 @@ module _ {buffer buffer' : List ℕ} {phase phase' : Phase} {byte : ℕ} {result
 -- took the unended bytes of p ++ done
 pub phase_so_far : {buffer₀ buffer : List ℕ} {phase₀ phase : Phase} {done : List ℕ} {found : List Outcome} → TakesBytes buffer₀ phase₀ done found buffer phase
     → (p : List ℕ) → PhaseAfter (length buffer₀) phase₀ p → PhaseAfter (length buffer) phase (unended (p ++ done))
-phase_so_far {buffer₀} {buffer} {phase₀} {phase} {done} s p h = grind arith
+phase_so_far {buffer₀} {buffer} {phase₀} {phase} {done} s p h = rw s.len (s.phased p h)
 
 -- MORE BYTES AT ONCE
 
@@ -121,30 +121,30 @@ module _ {buffer₀ buffer buffer' : List ℕ} {phase₀ phase phase' : Phase} {
   -- the outcomes reported for `more` are those of the unended bytes so far followed by `more`
   reported_more : TakesBytes buffer₀ phase₀ done found buffer phase → TakesBytes buffer phase more stated buffer' phase' → (p : List ℕ) → DecoderAfter buffer phase (unended (p ++ done))
       → stated ≡ stream_outcomes (unended (p ++ done) ++ more) (length buffer₀)
-  reported_more s t p w = grind arith
+  reported_more s t p w = rw s.len at (t.outcomes _ w)
 
   -- `TakesBytes` for `done`, and then for `more`, gives `TakesBytes` for both together
   pub takes-more : TakesBytes buffer₀ phase₀ done found buffer phase → TakesBytes buffer phase more stated buffer' phase'
       → TakesBytes buffer₀ phase₀ (done ++ more) (found ++ stated) buffer' phase'
   takes-more s t = record {
     len = t.len ∙ s.len;
-    feeds = grind (arith, FeedsEach-append);
-    phased = grind (arith, unended_more, phase_so_far);
-    after = grind (arith, unended_more);
-    outcomes = grind (arith, outcomes_more, reported_more);
+    feeds = FeedsEach-append done more buffer₀ buffer buffer' phase₀ phase phase' s.feeds t.feeds;
+    phased = λ p h. rw (unended_more p done more) (rw s.len at (t.phased _ (phase_so_far s p h)));
+    after = λ p h. rw (unended_more p done more) (t.after _ (s.after p h));
+    outcomes = λ p h. rw (outcomes_more p done more (length buffer₀), s.outcomes p h, reported_more s t p (s.after p h)) refl;
     -- If a zero is among `done`, the outcomes of `more` are exact, and only the first outcome of `done` is merely
     -- alike. Otherwise no piece has ended in `done`, and the first outcome is that of `more`.
     alike = λ p h. elim (zero_or_none done) [
-      | inl old ↦ grind (arith, outcomes_more, reported_more, alike-append)
+      | inl old ↦ rw (outcomes_more p done more (length buffer₀), reported_more s t p (s.after_zero p h old)) (alike-append _ _ _ (s.alike p h))
       | inr none ↦
           let plain : stream_outcomes (p ++ done) (length buffer₀) ≡ [] = stream_outcomes-no_zero (p ++ done) (length buffer₀) (All-append (λ b. b ≢ 0) p done h.piece none) in
           -- so `found` is empty too, and only the outcomes of `more` are left
           rw (outcomes_more p done more (length buffer₀), plain, alike-nil found (rw plain at (s.alike p h)))
-          (grind arith)
+          (rw s.len at (t.alike _ (phase_so_far s p h)))
     ];
     -- the zero is among `done`, or among `more`
     after_zero = λ p h z. rw (unended_more p done more) (elim (Contains-append_cases done more 0 z) [
-      | inl old ↦ grind arith
+      | inl old ↦ t.after _ (s.after_zero p h old)
       | inr new ↦ t.after_zero _ (phase_so_far s p h) new
     ]);
   }

@@ -34,8 +34,8 @@ returns-in_err-report c =
     let is : (error : DecodeError) × (c.decode.result ≡ Err error) × (c.from_residual-in_err-report.result ≡ Err (Decode error)) = search rules in
     -- the vector is as long as the source
     let made : vec_len c.in_ok-message.message ≡ length c.args.source.now =
-        kept-ok c.vec.result c.map_err.result _ (λ v. vec_len v ≡ length c.args.source.now) _
-            c.vec.ensures.len c.map_err.ensures.cases c.in_ok-message.was in
+    kept-ok c.vec.result c.map_err.result _ (λ v. vec_len v ≡ length c.args.source.now) _
+    c.vec.ensures.len c.map_err.ensures.cases c.in_ok-message.was in
     let no = decoded-rejected c.args.source.now (length c.deref_mut.result.now) (c.deref_mut.ensures.len ∙ made) is.0 some (sym is.1 ∙ c.decode.ensures.answer) in
     rw is.2 (record {
       -- the clause `message` says nothing about an error

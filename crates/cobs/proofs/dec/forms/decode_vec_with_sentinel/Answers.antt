@@ -36,8 +36,8 @@ returns-in_err-len c =
     let is : (error : DecodeError) × (c.decode_with_sentinel.result ≡ Err error) × (c.from_residual-in_err-len.result ≡ Err (Decode error)) = search rules in
     -- the vector is as long as the source (`long`), and so as long as the XORed source (`changed`)
     let made : vec_len c.in_ok-message.message ≡ length c.args.source.now =
-        kept-ok c.vec.result c.map_err.result _ (λ v. vec_len v ≡ length c.args.source.now) _
-            c.vec.ensures.len c.map_err.ensures.cases c.in_ok-message.was in
+    kept-ok c.vec.result c.map_err.result _ (λ v. vec_len v ≡ length c.args.source.now) _
+    c.vec.ensures.len c.map_err.ensures.cases c.in_ok-message.was in
     let long : length c.deref_mut.result.now ≡ length c.args.source.now = c.deref_mut.ensures.len ∙ made in
     let changed = length-map c.args.source.now (λ (b : ℕ). bit_xor b c.args.sentinel) in
     let no = decoded_head-rejected (xor_each c.args.sentinel c.args.source.now) _ (long ∙ sym changed) is.0 (omega arith) (sym is.1 ∙ c.decode_with_sentinel.ensures.answer) in
