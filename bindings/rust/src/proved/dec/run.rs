@@ -130,7 +130,7 @@ impl UnbufferedDecoder {
     }
 
     /// Decodes `bytes` as one span, or decodes nothing. Returns whether it decoded the bytes; if it returns false,
-    /// nothing has changed. The function decodes the bytes only if all these conditions hold:
+    /// nothing has changed. The function decodes the bytes exactly if all these conditions hold:
     ///
     /// - A piece has begun, and isn't too long for the buffer.
     /// - There are 1 to 31 bytes, and none of them is a zero.
@@ -154,8 +154,8 @@ impl UnbufferedDecoder {
     }
 
     /// Decodes `bytes`, the first bytes of a piece, and returns true, or decodes nothing and returns false. The caller
-    /// ensures that `bytes` has at most 65 bytes, and that none of them is a zero. The function decodes the bytes only
-    /// if there are at least 2 bytes, and if `dest` has room for their output.
+    /// ensures that `bytes` has at most 65 bytes, and that none of them is a zero. The function decodes the bytes
+    /// exactly if there are at least 2 bytes, and `dest` has room for their output, which is one byte shorter.
     #[inline(always)]
     pub(crate) fn take_front(&mut self, dest: &mut [u8], bytes: &[u8]) -> bool {
         let len = bytes.len();
