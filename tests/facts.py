@@ -80,15 +80,40 @@ def other_figures():
             yield f"README.md: it says {said[1] if said else 'nothing'} for {pattern}, and {where[0]} has {wanted}"
 
 
+def pairs():
+    """For each pair of coders of PERFORMANCE.md, its calls, each with the least ratio and the kinds of messages below 1.0."""
+    tables, pair = {}, None
+    generated = (TOP / SPEEDS).read_text().partition("<!-- pairs -->")[2].partition("<!-- end of pairs -->")[0]
+    for line in generated.splitlines():
+        cells = line.strip("| ").split(" | ")
+        if line.startswith("| ") and cells[1] == "median":
+            pair = tables.setdefault(cells[0], {})
+        elif line.startswith("| "):
+            pair[cells[0]] = (cells[2].split()[0], cells[3])
+    return tables
+
+
+# The pairs that the table of slower calls leaves out.
+LEFT_OUT = ["`jcobs.c` by `cc -O2` / checked C with `jcobs_answer`", "`jcobs` / the crate `cobs`, both with LTO"]
+
+
 def other_ratios():
-    """A line for each row of PERFORMANCE.md's table of slower calls whose least ratio isn't that of its pair."""
-    rows = (TOP / SPEEDS).read_text().partition("\n## Calls that are slower")[2].partition("\n## ")[0].splitlines()
-    for pair, calls, _, ratio, _ in (row.strip("| ").split(" | ") for row in rows if re.match(r"\| `", row)):
-        found = {call: cell(SPEEDS, pair, call, "least") for call in calls.split(", ")}
-        missing = [call for call, least in found.items() if not least]
-        least = min((least.split()[0] for least in found.values() if least), key=float, default=None)
-        if missing or ratio != least:
-            yield f"{SPEEDS}: {pair}, {calls}: it says {ratio}, and the table has {least}; no row of {missing}"
+    """A line for each row of PERFORMANCE.md's table of slower calls that doesn't agree with the table of its pair, and for each
+    call that is slower and has no row."""
+    text = (TOP / SPEEDS).read_text().partition("\n## Calls that are slower")[2].partition("\n## ")[0]
+    rows = [row.strip("| ").split(" | ") for row in text.splitlines() if row.startswith("| `")]
+    tables, named = pairs(), set()
+    for pair, calls, ratio, _ in rows:
+        found = {call: tables.get(pair, {}).get(call, ("no row", "-")) for call in calls.split(", ")}
+        named |= {(pair, call) for call in found}
+        yield from (f"{SPEEDS}: {pair}, {call}: it isn't slower" for call, (_, below) in found.items() if below == "-")
+        least = min((least for least, below in found.values() if below != "-"), key=float, default=None)
+        if ratio != least:
+            yield f"{SPEEDS}: {pair}, {calls}: it says {ratio}, and the table has {least}"
+    for pair in tables.keys() - LEFT_OUT:
+        for call, (least, below) in tables[pair].items():
+            if below != "-" and (pair, call) not in named:
+                yield f"{SPEEDS}: {pair}, {call}: it has no row, and is slower ({least})"
 
 
 def laws_left_out():
