@@ -1,4 +1,4 @@
-//! Errors, and the sizes of a decoded message.
+//! Errors, and the report about a decoded message.
 ghost use Rattle.std.specs.Prelude.{◌≡◌};
 ghost use Rattle.cobs.specs.Fields.Report.{frame_size_of, parsed_size_of};
 
@@ -33,8 +33,8 @@ pub enum DecodeError {
     /// The frame breaks off inside a block, or the source has only zeros.
     #[error("frame with invalid format, written {decoded_bytes} to decoded buffer")]
     InvalidFrame {
-        /// How many bytes were decoded. If the output was written to a buffer of the caller or of a streaming decoder,
-        /// that buffer begins with the decoded bytes.
+        /// How many bytes were decoded. If the output was written to the caller's buffer or to the buffer of a
+        /// streaming decoder, this buffer begins with the decoded bytes.
         decoded_bytes: usize,
     },
 
@@ -43,8 +43,8 @@ pub enum DecodeError {
     TargetBufTooSmall,
 }
 
-/// The error of a `push` to a streaming decoder, with the number of bytes that were consumed. (This type is this
-/// library's own.)
+/// The error of a `push` to a streaming decoder, with the number of bytes that were consumed. (The crate `cobs` has no
+/// such type.)
 ///
 /// The decoder has consumed the first `parsed_size` of the pushed bytes. To continue, the caller pushes the bytes that
 /// weren't consumed.
@@ -69,7 +69,7 @@ pub struct PushError {
 }
 
 /// The reason why a call returned no vector. If memory runs out, the call returns `Memory` and doesn't abort the
-/// program. (This type is this library's own.)
+/// program. (The crate `cobs` has no such type.)
 ///
 /// ```
 /// let rejected = Err(DecodeVecError::Decode(DecodeError::EmptyFrame));
@@ -81,13 +81,13 @@ pub enum DecodeVecError {
     #[error("{0}")]
     Decode(DecodeError),
 
-    /// There was no memory for the vector.
+    /// There wasn't enough memory for the vector.
     #[error("out of memory")]
     Memory(AllocError),
 }
 
-/// A report of a decoded message: how many bytes of the source were consumed, and how many bytes the message has. The
-/// names of its methods are those of the crate `cobs`.
+/// A report about a decoded message: how many bytes of the source were consumed, and how many bytes the message has.
+/// The names of the methods are those of the crate `cobs`.
 ///
 /// ```
 /// let report = decode(&[0, 3, 1, 2, 0, 1], &mut [0; 4])?;

@@ -6,8 +6,8 @@ ghost use Rattle.cobs.specs.Grammar.{HasNoZero};
 use cobs_bytes::window::{WIDE_WINDOW, WINDOW, first_zero, has_vectors, zeros_at};
 use memchr::memchr;
 
-/// Returns how many zeros the source begins with. [`decode`](crate::decode) skips these zeros before a frame. (This
-/// function is this library's own.)
+/// Returns how many zeros the source begins with. [`decode`](crate::decode) skips these zeros before a frame. (The
+/// crate `cobs` has no such call.)
 ///
 /// ```
 /// assert_eq!(rt; leading_zeros(&[0, 0, 2, 7, 0]), 2);
@@ -36,7 +36,7 @@ pub(crate) fn position_or_len(source: &[u8], byte: u8) -> usize
 }
 
 /// Returns how many bytes come before the first zero, or the length of `bytes` if there is no zero. The function is
-/// small, because it uses no SIMD vectors. (This function is this library's own.)
+/// small, because it uses no SIMD vectors. (The crate `cobs` has no such call.)
 ///
 /// ```
 /// assert_eq!(rt; len_to_zero(&[3, 7, 8, 0, 2]), 3);
@@ -113,7 +113,7 @@ pub(crate) fn len_without_end(source: &[u8], sentinel: u8) -> usize
     }
 }
 
-/// Returns the index of the first zero if this zero is among the first 66 bytes, and otherwise the source's length.
+/// Returns the index of the first zero if this zero is among the first 66 bytes. Otherwise returns the source's length.
 #[inline(always)]
 pub(crate) fn front_len(source: &[u8]) -> usize
     ensures within { result ≤ length source.now }
@@ -134,7 +134,7 @@ pub(crate) fn front_len(source: &[u8]) -> usize
     if later != 0 {
         return at + later.trailing_zeros() as usize;
     }
-    // The zero after the frame of a message of 63 or 64 bytes is at one of these two indices.
+    // If the message of the frame has 63 or 64 bytes, the zero after the frame is at one of the next two indices.
     if WIDE_WINDOW < source.len() && source[WIDE_WINDOW] == 0 {
         return WIDE_WINDOW;
     }

@@ -1,11 +1,11 @@
-//! A reader of frames from any source of bytes.
+//! A reader that reads frames from any source of bytes.
 //!
 //! `FrameReader` reads chunks of up to 64 bytes from a `FrameSource`: a file, a socket, a serial port or any other
-//! source. Each call of `next_frame` returns the outcome of one piece (the bytes between two zeros), the end of the
-//! source, or a fault. The reader reads from the source only if no piece ends in the bytes that it kept from earlier
-//! reads. No byte is lost: the bytes after the end of a piece are kept for the next call, and before a fault is
-//! returned, all bytes that were read are fed to the decoder. No call of this module allocates. (The rule that a zero
-//! ends each piece is from Cheshire and Baker's paper; the rest of this module is this library's own.)
+//! source. A piece consists of the bytes between two zeros. Each call of `next_frame` returns the outcome of one piece,
+//! the end of the source, or a fault. The reader reads from the source only if no piece ends in the bytes that it kept
+//! from earlier reads. No byte is lost. The bytes after the end of a piece are kept for the next call. Before a fault
+//! is returned, all bytes that were read are fed to the decoder. No call of this module allocates. (The rule that a
+//! zero ends each piece is from Cheshire and Baker's paper. The crate `cobs` has no such module.)
 ghost use Rattle.std.specs.Prelude.{◌≡◌, ℕ, ◌≤◌, List, [], ◌∷◌, ◌++◌, length, take, drop, Option, option_map, IfOk, IfNone, IfSome, OnSome, MatchOption};
 ghost use Rattle.cobs.specs.Grammar.{HasNoZero};
 ghost use Rattle.cobs.specs.Stream.{Outcome, stream_outcomes, unended, is_nonempty};
@@ -46,7 +46,7 @@ pub enum Next {
 /// The reason why a call of `next_frame` failed. No byte is lost: a later call continues after the bytes that were
 /// read.
 ///
-/// This example calls again after too many reads, but gives up if a read failed.
+/// This example calls `next_frame` again after too many reads, but gives up if a read failed.
 ///
 /// ```
 /// fn next_or_more<D: FrameDecoder, S: FrameSource>(
@@ -83,13 +83,14 @@ pub enum ReadFault {
 /// assert_eq!(rt; source.read_some(&mut chunk), Some(0));
 /// ```
 pub trait FrameSource {
-    /// Whether a read of a source in the first state may have this result and leave the source in the second state.
+    /// Says whether a read of a source in the first state may have this result and leave the source in the second
+    /// state.
     ghost step: { Self → Option (List ℕ) → Self → Type 0 };
 
     /// Reads bytes of the stream into `chunk`, with one read.
     ///
-    /// Returns `Some(n)` if the read succeeded: the first `n` bytes of `chunk` are then the bytes that were read, and
-    /// `n` is 0 at the end of the source. Returns `None` if the read failed.
+    /// Returns `Some(n)` if the read succeeded. The first `n` bytes of `chunk` are then the bytes that were read. At
+    /// the end of the source, `n` is 0. Returns `None` if the read failed.
     ///
     /// ```
     /// let mut source = Recorded::new([7; 100].as_slice());
@@ -188,7 +189,7 @@ fn is_unfinished(before: bool, bytes: &[u8]) -> bool
 /// piece ends.
 const MOST_READS: usize = 65536;
 
-/// Reads a stream with a decoder that the reader owns. Each call of `next_frame` reads one piece.
+/// Reads a stream, and decodes it with a decoder that the reader owns. Each call of `next_frame` reads one piece.
 ///
 /// The source isn't part of the reader: the caller passes a source to each call, so a stream may continue in another
 /// source. Contracts describe a reader by its decoder, and by the bytes that the reader has read but not yet fed to the
@@ -210,7 +211,8 @@ pub struct FrameReader<D: FrameDecoder> {
     start: usize,
     end: usize,
 
-    /// Whether a piece has begun and hasn't ended yet, that is, whether the last byte that was fed isn't a zero.
+    /// Whether a piece has begun and hasn't ended yet. If bytes have been fed, this is true exactly if the last byte
+    /// isn't a zero.
     unfinished: bool,
 
     ghost ordered: { start ≤ end },
@@ -253,7 +255,8 @@ impl<D: FrameDecoder> FrameReader<D> {
         }
     }
 
-    /// Returns the decoder. After a `Next::Message(n)` the message is the first `n` bytes of the decoder's buffer.
+    /// Returns the decoder. After `next_frame` has returned `Next::Message(n)`, the message is the first `n` bytes of
+    /// the decoder's buffer.
     ///
     /// ```
     /// let reader = FrameReader::new(CobsDecoderHeapless::<2>::new());
@@ -302,8 +305,8 @@ impl<D: FrameDecoder> FrameReader<D> {
     ///
     /// The call first uses the bytes that earlier calls have kept. If no piece ends in these bytes, the call makes up
     /// to 65,536 reads from the source. It stops after the first read that returned the end of a piece, that failed, or
-    /// that returned no bytes. The call keeps the bytes after the end of the piece for the next call. After `Next::End`
-    /// the stream may continue, in this source or in another one.
+    /// that returned no bytes. The bytes after the end of the piece are kept for the next call. After `Next::End` the
+    /// stream may continue, in this source or in another one.
     ///
     /// # Errors
     /// - `Io` if the last read of this call failed.
@@ -327,7 +330,7 @@ impl<D: FrameDecoder> FrameReader<D> {
         ensures len { length (D.bytes (decoder_of self.new)) ≡ length (D.bytes (decoder_of self.old)) }
         ensures same_loan { D.loan (decoder_of self.new) ≡ D.loan (decoder_of self.old) }
     {
-        // A copy, because `feed_through_end` borrows the whole reader.
+        // The bytes are copied, because `feed_through_end` borrows the whole reader.
         let kept = self.chunk;
         if let Some((next, count)) = self.feed_through_end(&kept[self.start..self.end]) {
             self.start += count;

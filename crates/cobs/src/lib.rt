@@ -5,10 +5,10 @@
 //! serial line or in a file. If a frame is damaged, the receiver waits for the next sentinel and reads the frame after
 //! that sentinel. A frame is a list of blocks. A block is a code followed by up to 254 nonzero bytes. The code is the
 //! length of the block in bytes, including the code itself. A block with the code 255 is full: 254 nonzero bytes follow
-//! its code. The boundary of two blocks stands for a zero of the message, unless the first of these two blocks is full.
-//! The frame of a message of up to 254 bytes is one byte longer than the message. The frame of a longer message, of `n`
-//! bytes, is at most `n / 254` (rounded up) bytes longer than the message. The format is that of the paper "Consistent
-//! Overhead Byte Stuffing" by Stuart Cheshire and Mary Baker.
+//! its code. The boundary between two blocks stands for a zero of the message, unless the first of these two blocks is
+//! full. The frame of a message of up to 254 bytes is one byte longer than the message. The frame of a longer message,
+//! of `n` bytes, is at most `n / 254` (rounded up) bytes longer than the message. The format is that of the paper
+//! "Consistent Overhead Byte Stuffing" by Stuart Cheshire and Mary Baker.
 //!
 //! This example encodes a message, and then decodes the frame:
 //!
@@ -25,7 +25,7 @@
 //! assert!(rt; message.starts_with(b"hello"));
 //! ```
 //!
-//! This example decodes a stream of two frames byte by byte, as bytes arrive from a serial line:
+//! This example decodes a stream of two frames byte by byte, as if the bytes arrived from a serial line:
 //!
 //! ```
 //! use cobs::CobsDecoder;
@@ -82,8 +82,8 @@
 //!   message.
 //! - [`laws`] has facts that a proof of your own can cite.
 //!
-//! A call that allocates has an allocator as its first argument and returns a `Result`. Each call is proved to meet its
-//! contract, to be safe and to end. In the examples `rt` is the argument of `main`, and `alloc` is `rt.alloc()`.
+//! A call that allocates has an allocator as its first argument and returns a `Result`. Each call is proved to be safe,
+//! to end, and to meet its contract. In the examples `rt` is the argument of `main`, and `alloc` is `rt.alloc()`.
 #![tactic(auto)]
 
 // Lines that begin with `ghost` are for contracts and proofs. They have no effect when a program runs.

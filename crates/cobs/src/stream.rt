@@ -1,11 +1,11 @@
 //! Calls for whole streams: `decode_stream` decodes all pieces that end in the next bytes of a stream, and
 //! `encode_frames` encodes several messages.
 //!
-//! A stream is cut at its zeros. A piece is the bytes, at least one, between two neighbouring zeros or before the first
-//! zero. A piece is a frame, breaks off inside a block, or decodes to more bytes than the buffer has room for. Each
-//! piece is decoded separately, so damage to one piece has no effect after the next zero. (The rule that a zero ends
-//! each frame is from Cheshire and Baker's paper; how broken and too long pieces are reported is a choice of this
-//! library.)
+//! A stream is cut at its zeros. A piece consists of the bytes between two neighbouring zeros, or before the first
+//! zero. It has at least one byte. There are three outcomes: a piece is a frame, breaks off inside a block, or decodes
+//! to more bytes than the buffer has room for. Each piece is decoded separately, so damage to one piece has no effect
+//! after the next zero. (The rule that a zero ends each frame is from Cheshire and Baker's paper. The outcomes of
+//! pieces that are broken or too long are a choice of this library.)
 ghost use Rattle.std.specs.Prelude.{◌≡◌, ℕ, ◌+◌, ◌<◌, ◌≤◌, ◌^◌, List, [], ◌++◌, All, length, map, take, option_to_list, IfOk, IfSome, IsOk, IsSome, ◌↔◌, OnOk, OnErr, Contains};
 ghost use Rattle.cobs.specs.Feed.{DecoderAfter, PhaseAfter};
 ghost use Rattle.cobs.specs.Length.{max_encoded_len};
@@ -18,7 +18,7 @@ use crate::enc::encode;
 use crate::max_encoding_length;
 use std::alloc::{AllocError, Global};
 
-/// The outcome of a piece of a stream. A piece is one or more nonzero bytes, and a zero ends it.
+/// The outcome of a piece of a stream. A piece consists of one or more nonzero bytes, and a zero ends the piece.
 ///
 /// ```
 /// let mut decoder = CobsDecoderHeapless::<4>::new();
@@ -38,7 +38,7 @@ pub enum FrameOutcome {
     TooLong,
 }
 
-/// Converts `end`, the end of a piece whose output is in `buffer`, to the outcome of the piece.
+/// Returns the outcome of a piece. `end` says how the piece ended, and `buffer` contains its output.
 fn frame_outcome(alloc: Global, end: PieceEnd, buffer: &[u8]) -> Result<FrameOutcome, AllocError>
     requires { IsWithin (length buffer.now) end }
     ensures { IfOk result (λ outcome. outcome_in outcome ≡ outcome_at end buffer.now) }
@@ -52,18 +52,18 @@ fn frame_outcome(alloc: Global, end: PieceEnd, buffer: &[u8]) -> Result<FrameOut
 
 /// Decodes the next bytes of a stream, and returns one outcome for each piece that ends in these bytes, in order.
 ///
-/// The first of these pieces may have begun in an earlier call. A piece that hasn't ended is continued by the next
-/// call, because the decoder keeps its state. So a caller may cut a stream into chunks anywhere and decode one chunk
-/// per call: the outcomes of all calls, in order, are those of the whole stream. A zero at the front of a stream, or
-/// after another zero, ends no piece.
+/// The first of these pieces may have begun in an earlier call. The decoder keeps its state, so the next call continues
+/// a piece that hasn't ended. So a caller may cut a stream into chunks anywhere, and decode one chunk per call. The
+/// outcomes of all calls, in order, are those of the whole stream. A zero at the front of a stream, or after another
+/// zero, ends no piece.
 ///
 /// The caller may write to the decoder's buffer while a piece is open, but the bytes of this piece's message are then
 /// unspecified. The length of the message, and all other outcomes, aren't affected.
 ///
 /// # Errors
-/// `AllocError` if memory for an outcome runs out. Then the outcomes of this call are lost, and the decoder is idle, so
-/// the next nonzero byte begins a new piece. Only messages and the list of outcomes need memory. So if no piece ends,
-/// the result is `Ok`.
+/// `AllocError` if there isn't enough memory for an outcome. Then the outcomes of this call are lost, and the decoder
+/// is idle, so the next nonzero byte begins a new piece. Only messages and the list of outcomes need memory. So if no
+/// piece ends, the result is `Ok`.
 ///
 /// ```
 /// let mut buffer = [0; 4];
@@ -91,8 +91,8 @@ pub fn decode_stream<D: FrameDecoder>(
         → PhaseAfter (length (D.bytes decoder.old)) (D.phase decoder.old) p
         → stream_outcomes (p ++ bytes.now) (length (D.bytes decoder.old)) ≡ [] → IsOk result }
 
-    // If the caller wrote to the buffer while p was fed or later, the outcomes are the same, with one exception: if the
-    // first outcome is a message, the bytes of this message may differ.
+    // If the caller wrote to the buffer while p was being fed, or after that, the outcomes are the same, with one
+    // exception: if the first outcome is a message, the bytes of this message may differ.
     ensures alike { (p : List ℕ)
         → PhaseAfter (length (D.bytes decoder.old)) (D.phase decoder.old) p
         → IfOk result (λ found. AreAlikeAtFirst (outcomes_in found.items)
@@ -120,8 +120,8 @@ pub fn decode_stream<D: FrameDecoder>(
     Ok(outcomes)
 }
 
-/// Returns a stream of `messages` as a vector. The stream has, for each message in order, the encoded frame of the
-/// message and then a zero.
+/// Encodes `messages`, and returns the stream as a vector. For each message, in order, the stream has the encoded frame
+/// of the message, and then a zero.
 ///
 /// An idle decoder whose buffer has room for each of these messages decodes the stream to exactly these messages. If
 /// there are no messages, the stream is empty.
@@ -146,7 +146,7 @@ pub fn encode_frames(alloc: Global, messages: &[Vec<u8>]) -> Result<Vec<u8>, All
         IfOk result (λ bytes. stream_outcomes bytes.items n
         ≡ map Message (messages_in messages.now)) }
 {
-    // By the precondition `encode_frames_room` doesn't return `None` here.
+    // Because of the precondition, `encode_frames_room` doesn't return `None` here.
     let room = encode_frames_room(messages).unwrap_or(0);
     let mut frames = vec![in alloc; 0; room]?;
     let len = write_frames(messages, &mut frames);

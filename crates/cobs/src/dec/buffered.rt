@@ -18,7 +18,7 @@ use std::alloc::{AllocError, Global};
 ///
 /// `feed` decodes one byte of the stream, and `push` decodes any number of bytes. When a frame ends, its message is at
 /// the front of the slice, and stays there until the next nonzero byte is fed. A piece of the stream consists of the
-/// bytes between two zeros. The decoder is idle after every zero, so a broken frame never affects another frame: the
+/// bytes between two zeros. The decoder is idle after every zero, so a broken frame never affects another frame. The
 /// outcome of a piece depends only on the bytes of the piece and on the length of the slice. The rule that a zero ends
 /// each frame is from Cheshire and Baker's paper.
 ///
@@ -38,7 +38,8 @@ pub struct CobsDecoder<'a> {
 }
 
 impl<'a> CobsDecoder<'a> {
-    /// Makes an idle decoder over the slice `dest`, which may have any length, even 0. No byte of the slice is changed.
+    /// Makes an idle decoder whose buffer is the slice `dest`. The slice may have any length, even 0. No byte of the
+    /// slice is changed.
     ///
     /// ```
     /// let mut decoder = CobsDecoder::new(&mut []);
@@ -72,8 +73,8 @@ impl<'a> CobsDecoder<'a> {
     ///   bytes of the output. `feed` returns this error for the first byte whose output doesn't fit, and for each byte
     ///   after that, up to and including the zero that ends the piece.
     ///
-    /// After every zero the decoder is idle. (The results for the bytes after the first byte whose output doesn't fit
-    /// are a choice of this library.)
+    /// After every zero the decoder is idle. (The results that follow the first `TargetBufTooSmall` for a piece are a
+    /// choice of this library.)
     ///
     /// ```
     /// let mut buffer = [0; 2];
@@ -104,8 +105,8 @@ impl<'a> CobsDecoder<'a> {
     /// # Errors
     /// A `PushError` contains the error of `feed` and the number of bytes consumed, including the byte that raised the
     /// error. To continue with the stream, push the bytes that weren't consumed. If a zero raised the error, the piece
-    /// before this zero has ended. If a piece is too long for the slice, each push consumes one more byte of the piece
-    /// and returns the error again, until a push consumes the zero that ends the piece.
+    /// before this zero has ended. If a piece is too long for the slice, each later push consumes one more byte of the
+    /// piece and returns the error again, until a push consumes the zero that ends the piece.
     ///
     /// ```
     /// let mut buffer = [0; 2];
@@ -168,8 +169,8 @@ impl<'a> CobsDecoder<'a> {
 impl FrameDecoder for CobsDecoder<'_> {
     ghost use Rattle.cobs.specs.Fields.Decoders.{borrowed_buffer, borrowed_phase, borrowed_slice};
 
-    // For the contracts of `FrameDecoder`: the bytes of this decoder's buffer, its phase, and the number of the slice that it borrows.
-    // A line that begins with `ghost` has no effect when the program runs.
+    // The contracts of `FrameDecoder` need the bytes of this decoder's buffer, its phase, and the number of the slice
+    // that it borrows. A line that begins with `ghost` has no effect when the program runs.
     ghost bytes = { borrowed_buffer };
 
     ghost phase = { borrowed_phase };
@@ -209,8 +210,8 @@ impl WriteBuffer for CobsDecoder<'_> {
 /// Decodes a stream of frames, each ended by a zero, into a vector that the decoder owns.
 ///
 /// This decoder returns the same results as [`CobsDecoder`](crate::CobsDecoder). Memory is allocated once, by `new`,
-/// and the buffer keeps its length. The rule that a zero ends each frame is from Cheshire and Baker's paper; the calls
-/// are those of the Rust crate `cobs`.
+/// and the buffer keeps its length. The rule that a zero ends each frame is from Cheshire and Baker's paper. The calls
+/// are those of the crate `cobs`.
 ///
 /// ```
 /// let mut decoder = CobsDecoderOwned::new(alloc, 8)?;
@@ -246,8 +247,8 @@ impl CobsDecoderOwned {
     }
 
     /// Decodes the next byte of the stream. The results and errors are those of
-    /// [`CobsDecoder::feed`](crate::CobsDecoder::feed). As long as the output of the piece fits the buffer, the byte
-    /// has the same effect on the decoder's state as on a [`DecoderState`](crate::DecoderState).
+    /// [`CobsDecoder::feed`](crate::CobsDecoder::feed). As long as the output of the piece fits the buffer, the fed
+    /// byte changes the decoder's state in the same way as it changes a [`DecoderState`](crate::DecoderState).
     ///
     /// ```
     /// let mut decoder = CobsDecoderOwned::new(alloc, 0)?;
@@ -334,8 +335,9 @@ impl CobsDecoderOwned {
 impl FrameDecoder for CobsDecoderOwned {
     ghost use Rattle.cobs.specs.Fields.Decoders.{owned_buffer, owned_phase};
 
-    // For the contracts of `FrameDecoder`: the bytes of this decoder's buffer, its phase, and a constant, because it borrows no slice.
-    // A line that begins with `ghost` has no effect when the program runs.
+    // The contracts of `FrameDecoder` need the bytes of this decoder's buffer, its phase, and a number for the slice
+    // that a decoder borrows. This decoder borrows no slice, so the number is a constant. A line that begins with
+    // `ghost` has no effect when the program runs.
     ghost bytes = { owned_buffer };
 
     ghost phase = { owned_phase };

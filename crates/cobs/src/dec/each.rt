@@ -1,4 +1,4 @@
-//! Decoders that decode one byte at a time, for targets without SIMD vectors.
+//! Functions that decode one byte at a time, for targets without SIMD vectors.
 ghost use Rattle.std.specs.Prelude.{◌≡◌, ◌≢◌, ◌+◌, ◌≤◌, ◌++◌, Some, length, min, take, drop};
 ghost use Rattle.cobs.specs.Decode.{first_output, head_result, in_place, in_place_report, result_of_decode, result_of_sentinel_decode};
 ghost use Rattle.cobs.specs.FirstPiece.{end_of_first};
@@ -16,14 +16,14 @@ use crate::find::{leading_zeros, len_to, len_to_zero};
 
 /// Decodes the first `end` bytes of the buffer as one frame, in the buffer itself and one byte at a time. Returns the
 /// message's length in bytes. The message is then at the front of the buffer, and every byte after the message is as it
-/// was. The code of this function is small, and uses no SIMD vectors. (This function is this library's own.)
+/// was. The code of this function is small, and uses no SIMD vectors. (The crate `cobs` has no such call.)
 ///
 /// Precondition: the buffer has at least `end` bytes, and none of its first `end` bytes is a zero.
 /// [`len_to_zero`](crate::len_to_zero) returns the number of bytes before the first zero.
 ///
 /// # Errors
 ///
-/// `InvalidFrame` if the frame breaks off inside its last block. The number `decoded_bytes` is the same as that of
+/// `InvalidFrame` if the frame breaks off inside its last block. `decoded_bytes` is the same number as in the error of
 /// [`decode_in_place`](crate::decode_in_place). The bytes of the broken block aren't decoded.
 ///
 /// ```
@@ -51,7 +51,7 @@ pub fn decode_blocks_each(buffer: &mut [u8], end: usize) -> Result<usize, Decode
         let next = read + code;
         read += 1;
         // The test of the inner loop is written at the end of the loop, because compilers that optimize for size don't
-        // move a test there.
+        // move it there themselves.
         if read != next {
             'by_byte: loop {
                 buffer[written] = buffer[read];
@@ -123,8 +123,8 @@ fn ended(written: usize, missing: usize, at: usize) -> Option<(PieceEnd, usize)>
 /// Returns `None` if the source has no piece.
 ///
 /// This function decodes as [`decode`](crate::decode) does, but it returns the number of consumed bytes even if the
-/// piece is broken or too long. The code of this function is small, and uses no SIMD vectors. (This function is this
-/// library's own.)
+/// piece is broken or too long. The code of this function is small, and uses no SIMD vectors. (The crate `cobs` has no
+/// such call.)
 ///
 /// ```
 /// let mut dest = [170; 3];
@@ -161,7 +161,8 @@ pub fn decode_piece(source: &[u8], dest: &mut [u8]) -> Option<(PieceEnd, usize)>
             written += 1;
             left -= 1;
         } else {
-            // `byte` is the code of the next block. A zero joins the two blocks, unless the block before is full.
+            // `byte` is the code of the next block. A zero joins the current block and the next block, unless the
+            // current block is full.
             if code != FULL {
                 if written == dest.len() {
                     return Some((PieceEnd::TooLong, through_piece(source, at)));

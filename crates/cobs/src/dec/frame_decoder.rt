@@ -1,4 +1,4 @@
-//! The traits of the streaming decoders. `FrameDecoder` is for decoding; `stream` and `framed` use this trait.
+//! The traits of the streaming decoders. `FrameDecoder` is for decoding; the modules `stream` and `framed` use it.
 //! `WriteBuffer` is for writing to the decoder's buffer.
 ghost use Rattle.std.specs.Prelude.{◌≡◌, ◌≤◌, ℕ, List, length, ◌+◌};
 ghost use Rattle.cobs.specs.Feed.{Feeds, Phase};
@@ -10,7 +10,7 @@ ghost use Rattle.cobs.specs.Fields.Lending.{LendsBytes};
 
 use crate::error::DecodeError;
 
-/// How a piece of a stream ended. (The names of the variants are this library's own.)
+/// How a piece of a stream ended. (The crate `cobs` has no such type.)
 ///
 /// ```
 /// let mut decoder = CobsDecoderHeapless::<1>::new();
@@ -59,7 +59,7 @@ impl PieceEnd {
 /// output.
 ///
 /// Contracts describe a decoder by the bytes of its buffer and by its phase, that is, the facts that the decoder keeps
-/// about the piece so far. (The trait is this library's own.)
+/// about the piece so far. (The crate `cobs` has no such trait.)
 ///
 /// ```
 /// let mut decoder = CobsDecoderHeapless::<4>::new();
@@ -74,12 +74,12 @@ pub trait FrameDecoder {
     ghost phase: { Self → Phase };
 
     /// A number that identifies the slice that the decoder borrows as its buffer. If the decoder borrows no slice, the
-    /// number is any constant.
+    /// number may be any constant.
     ghost loan: { Self → ℕ };
 
     /// Decodes the next byte of the stream. The results and errors are those of
-    /// [`CobsDecoder::feed`](crate::CobsDecoder::feed). As long as the output of the piece fits the buffer, the byte
-    /// has the same effect on the decoder's state as on a [`DecoderState`](crate::DecoderState).
+    /// [`CobsDecoder::feed`](crate::CobsDecoder::feed). As long as the output of the piece fits the buffer, the fed
+    /// byte changes the decoder's state in the same way as it changes a [`DecoderState`](crate::DecoderState).
     ///
     /// ```
     /// let mut decoder = CobsDecoderHeapless::<1>::new();
@@ -93,7 +93,7 @@ pub trait FrameDecoder {
 
     /// Decodes the next bytes of the stream, and stops after the first zero that ends a piece.
     ///
-    /// - Returns `None` if no piece ended in these bytes. In this case all these bytes were decoded.
+    /// - Returns `None` if no piece ended in these bytes. In this case all of these bytes were decoded.
     /// - Returns `Some((end, count))` if the zero at index `count - 1` ended a piece; `end` says how the piece ended.
     ///   The bytes after that zero had no effect, so the caller continues with the byte at index `count`, even if the
     ///   piece is too long for the buffer.
@@ -138,15 +138,15 @@ pub trait FrameDecoder {
 /// A decoder that lends its buffer for writing.
 ///
 /// Writing replaces the bytes of the buffer. The decoder's state doesn't change, and the decoder still uses the same
-/// slice as its buffer.
-/// So if the caller writes while a piece is open, the results for this piece stay the same (`PhaseAfter`), but the
-/// bytes of its message are unspecified. A piece is open from its first byte to the zero that ends it.
+/// slice as its buffer. So if the caller writes while a piece is open, the results for this piece stay the same, but
+/// the bytes of its message are unspecified. (Contracts describe such a decoder by `PhaseAfter`.) A piece is open from
+/// its first byte to the zero that ends it.
 ///
-/// Each decoder of this library that implements this trait also has an inherent method `dest_mut`. A `CobsDecoder`
-/// borrows its slice. So a proof about a caller of `CobsDecoder::dest_mut` can use the bytes of the slice while the
-/// returned reference is in use, but not the decoder's state after the write. If the proof needs this state, the caller
-/// has two other calls: [`write_dest`](WriteBuffer::write_dest), or the `dest_mut` of this trait in generic code. (The
-/// trait is this library's own.)
+/// Each decoder of this library that implements this trait also has an inherent method `dest_mut`. A proof about a
+/// caller of `CobsDecoder::dest_mut` can use facts about the bytes of the slice while the returned reference is in use.
+/// After the write, the proof can't use facts about the decoder's state, because a `CobsDecoder` borrows its slice. If
+/// the proof needs these facts, the caller writes with [`write_dest`](WriteBuffer::write_dest) instead, or, in generic
+/// code, with the `dest_mut` of this trait. (The crate `cobs` has no such trait.)
 ///
 /// ```
 /// let mut buffer = [0; 3];

@@ -16,7 +16,7 @@ use arrayvec::ArrayVec;
 /// Decodes a stream of frames, each ended by a zero, into a buffer of `N` bytes that is part of the decoder itself.
 ///
 /// This decoder returns the same results as [`CobsDecoder`](crate::CobsDecoder), and it doesn't allocate. The rule that
-/// a zero ends each frame is from Cheshire and Baker's paper; the calls are those of the crate `cobs`.
+/// a zero ends each frame is from Cheshire and Baker's paper. The calls are those of the crate `cobs`.
 ///
 /// ```
 /// let mut decoder = CobsDecoderHeapless::<2>::new();
@@ -76,8 +76,8 @@ impl<const N: usize> CobsDecoderHeapless<N> {
     }
 
     /// Decodes the next byte of the stream. The results and errors are those of
-    /// [`CobsDecoder::feed`](crate::CobsDecoder::feed). As long as the output of the piece fits the buffer, the byte
-    /// has the same effect on the decoder's state as on a [`DecoderState`](crate::DecoderState).
+    /// [`CobsDecoder::feed`](crate::CobsDecoder::feed). As long as the output of the piece fits the buffer, the fed
+    /// byte changes the decoder's state in the same way as it changes a [`DecoderState`](crate::DecoderState).
     ///
     /// ```
     /// let mut decoder = CobsDecoderHeapless::<4>::new();
@@ -184,8 +184,9 @@ impl<const N: usize> Default for CobsDecoderHeapless<N> {
 impl<const N: usize> FrameDecoder for CobsDecoderHeapless<N> {
     ghost use Rattle.cobs.specs.Fields.Decoders.{heapless_buffer, heapless_phase};
 
-    // For the contracts of `FrameDecoder`: the bytes of this decoder's buffer, its phase, and a constant, because it borrows no slice.
-    // A line that begins with `ghost` has no effect when the program runs.
+    // The contracts of `FrameDecoder` need the bytes of this decoder's buffer, its phase, and a number for the slice
+    // that a decoder borrows. This decoder borrows no slice, so the number is a constant. A line that begins with
+    // `ghost` has no effect when the program runs.
     ghost bytes = { heapless_buffer };
 
     ghost phase = { heapless_phase };

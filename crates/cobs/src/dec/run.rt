@@ -1,8 +1,10 @@
 //! The loop that decodes the bytes before a sentinel, on targets with SIMD vectors. Each step of the loop decodes a
-//! long block, rows of 32 blocks 01, a *span*, or only a code. A span is up to 253 bytes of a piece. All bytes of a
-//! span are copied, even the codes, and then a zero is written over each code.
+//! long block, one or more *rows*, a *span*, or only a code. A row consists of 32 blocks, each with the code 01. A span
+//! consists of up to 253 bytes of a piece. All bytes of a span are copied, even the codes, and then a zero is written
+//! over each code.
 //!
-//! Each step requires that the output so far fits the buffer, and ensures that it still does (the clauses `going`).
+//! Each step requires that the output so far fits the buffer, and ensures that the output still fits after the step.
+//! The clauses `going` state this.
 ghost use Rattle.std.specs.Prelude.{IsTrue, ◌++◌, drop, ◌≡◌, ◌≢◌, ◌<◌, ◌≤◌, ◌+◌, ◌-◌, ◌∷◌, [], length, take, slice_index, false, List, ℕ};
 ghost use Rattle.cobs.specs.Feed.{Idle, Overlong};
 ghost use Rattle.cobs.specs.Fields.Decoders.{phase_of};
@@ -43,8 +45,8 @@ impl UnbufferedDecoder {
         self.missing = code - 1;
     }
 
-    /// Returns the greatest length of a span in the next `len` bytes. If the open block is full, the span ends no later
-    /// than the open block. If no piece has begun, the function returns 0.
+    /// Returns how many of the next `len` bytes a span may contain. If the open block is full, the span ends no later
+    /// than this block. If no piece has begun, the function returns 0.
     #[inline(always)]
     pub(crate) fn span_len(&self, len: usize) -> usize
         ensures within { result ≤ len }
@@ -84,8 +86,8 @@ impl UnbufferedDecoder {
         let len = (self.missing as usize)
             .min(bytes.len() - 1)
             .min(dest.len().saturating_sub(at));
-        // If earlier calls had a longer buffer, `dest` may be shorter than `at`. Then the slice of `dest` below would
-        // be out of bounds, but `len` is 0, and the function returns here.
+        // If earlier calls had a longer buffer, `dest` may have fewer than `at` bytes. The slice of `dest` below would
+        // then be out of bounds. But `len` is 0 in this case, and the function returns here.
         if len == 0 {
             return 1;
         }
@@ -230,7 +232,8 @@ impl UnbufferedDecoder {
 
     /// Decodes `bytes`, the first bytes of a piece, and returns true, or decodes nothing and returns false. The caller
     /// ensures that `bytes` has at most 65 bytes, and that none of them is a zero. The function decodes the bytes
-    /// exactly if there are at least 2 bytes, and `dest` has room for their output, which is one byte shorter.
+    /// exactly if there are at least 2 bytes, and `dest` has room for their output. The output is one byte shorter than
+    /// `bytes`.
     #[inline(always)]
     pub(crate) fn take_front(&mut self, dest: &mut [u8], bytes: &[u8]) -> bool
         requires idle { phase_of self.old ≡ Idle }
@@ -257,14 +260,15 @@ impl UnbufferedDecoder {
         true
     }
 
-    /// Decodes bytes from the front of `bytes` in one step, and returns how many bytes it decoded. It returns 0 only if
-    /// `dest` has no room for the output of the first byte.
+    /// Decodes bytes from the front of `bytes` in one step, and returns how many bytes it decoded. The function returns
+    /// 0 only if `dest` has no room for the output of the first byte.
     ///
     /// - If the first byte is the code of a block that has at least 64 bytes after its code, the step decodes this code
     ///   and the bytes of the block.
     /// - If the first byte is a smaller code, and its block begins the piece or follows a full block, the step decodes
     ///   only this code. Such a code adds no byte to the output.
-    /// - Otherwise, if the first bytes are rows of 32 blocks 01, the step decodes up to seven rows.
+    /// - Otherwise, if the first bytes are rows of 32 blocks, each with the code 01, the step decodes up to seven of
+    ///   these rows.
     /// - In all other cases the step decodes a span.
     #[inline(always)]
     fn take_part(&mut self, dest: &mut [u8], bytes: &[u8], sentinel: u8) -> usize
@@ -311,8 +315,8 @@ impl UnbufferedDecoder {
         ensures stop { result < length bytes.now → next_phase (length dest.new) (phase_of self.new)
             (slice_index (xor_each sentinel bytes.now) result) ≡ Overlong }
     {
-        // The loop changes `here`, a copy of the decoder, which stays in registers. `too_long` is 0 before the loop and
-        // after it, so it isn't copied.
+        // The loop changes `here`, a copy of the decoder that stays in registers. `too_long` is 0 before and after the
+        // loop, so this field isn't copied.
         let mut here = UnbufferedDecoder {
             too_long: 0,
             ..*self
@@ -332,8 +336,8 @@ impl UnbufferedDecoder {
     }
 
     /// Decodes `bytes` up to the first zero, as long as `dest` has room for the output. Returns how many bytes it
-    /// decoded. The function searches for the first zero once, before it decodes the bytes.
-    /// If the piece is already too long for the buffer, the function decodes nothing.
+    /// decoded. The function searches for the first zero only once, before it decodes the bytes. If the piece is
+    /// already too long for the buffer, the function decodes nothing.
     #[inline(always)]
     pub(crate) fn take_run(&mut self, dest: &mut [u8], bytes: &[u8]) -> usize
         ensures within { result ≤ length bytes.now }
@@ -343,7 +347,7 @@ impl UnbufferedDecoder {
             → next_phase (length dest.new) (phase_of self.new) (slice_index bytes.now result) ≡ Overlong }
     {
         // If the piece is too long, `feed` returns an error for each of the next bytes of the piece, and `push` must
-        // stop at the first of them. So no byte is decoded here.
+        // stop at the first of these bytes. So no byte is decoded here.
         if self.too_long != 0 {
             return 0;
         }
@@ -351,8 +355,8 @@ impl UnbufferedDecoder {
         self.take_blocks(dest, &bytes[..end], 0)
     }
 
-    /// Decodes `bytes` as [`take_run`](Self::take_run) does, if the target has vectors. If the target has no vectors,
-    /// the function decodes nothing and returns 0; the caller then feeds the bytes one by one.
+    /// Decodes `bytes` as [`take_run`](Self::take_run) does, if the target has SIMD vectors. If the target has none,
+    /// the function decodes nothing and returns 0. The caller then feeds the bytes one by one.
     #[inline(always)]
     pub(crate) fn take_at_once(&mut self, dest: &mut [u8], bytes: &[u8]) -> usize
         ensures within { result ≤ length bytes.now }

@@ -44,7 +44,7 @@ impl UnbufferedDecoder {
         }
         // No byte of a block is missing here. If a piece has begun and its last block isn't full, `joint` isn't 0. If a
         // piece has begun and its last block is full, `written` isn't 0, because the bytes of that block were written.
-        // So if both are 0, no piece has begun.
+        // So if `joint` and `written` are both 0, no piece has begun.
         if ended.written == 0 && ended.joint == 0 {
             Ok(None)
         } else {
@@ -55,9 +55,9 @@ impl UnbufferedDecoder {
     /// Decodes a nonzero byte of a piece into the buffer, and returns how many decoded bytes of the piece the buffer
     /// then holds. If the output of the piece is too long for the buffer, the function returns the buffer's length.
     ///
-    /// For a nonzero byte, [`feed`](Self::feed) makes the same step. For a zero, which ends a piece, call `feed`: if
-    /// you pass a zero to `take_byte`, the results for the open piece and the bytes of the buffer are unspecified.
-    /// (This function is this library's own.)
+    /// For a nonzero byte, [`feed`](Self::feed) makes the same step. Pass a zero, which ends a piece, to `feed`. If you
+    /// pass a zero to `take_byte`, the results for the open piece and the bytes of the buffer are unspecified. (The
+    /// crate `cobs` has no such call.)
     ///
     /// ```
     /// let mut buffer = [0; 4];
@@ -68,8 +68,9 @@ impl UnbufferedDecoder {
     /// assert_eq!(rt; decoder.feed(&mut buffer, 0), Ok(Some(2)));
     /// assert!(rt; buffer.starts_with(&[7, 8]));
     /// ```
-    // The case of a byte inside a block has a separate return, whose value needs no comparison with the buffer's
-    // length. So compilers generate fewer instructions for a call with one byte than if all cases shared one return.
+    // The case of a byte inside a block has a separate return, because the returned value needs no comparison with the
+    // buffer's length in this case. With one return for all cases, compilers generate more instructions for a call with
+    // one byte.
     #[inline(always)]
     pub fn take_byte(&mut self, dest: &mut [u8], byte: u8) -> usize
         ensures buffer { byte ≢ 0 → dest.new ≡ next_buffer dest.old (phase_of self.old) byte }
@@ -81,8 +82,9 @@ impl UnbufferedDecoder {
         if self.too_long != 0 {
             return room;
         }
-        // `written` is read only once, here; otherwise compilers would read it again after each write to the buffer.
-        // Each case writes its byte itself, because it is slower to choose the byte first and to write it in one place.
+        // `written` is read only once, here, because otherwise compilers would read it again after each write to the
+        // buffer. Each case writes its byte itself: it would be slower to choose the byte first and then to write it in
+        // one place.
         let mut at = self.written;
         if self.missing != 0 {
             if at < room {
@@ -127,10 +129,10 @@ impl UnbufferedDecoder {
         Ok(None)
     }
 
-    /// Decodes bytes of a stream of frames for `sentinel`, one byte at a time. The function stops after the sentinel
-    /// that ends the first piece; if no piece ends, it decodes all bytes. For the sentinel 0, the effect and the result
-    /// are those of [`feed_piece`](Self::feed_piece). The function doesn't search ahead or copy slices, so its code is
-    /// small, and it is fast for a few bytes. (This function is this library's own.)
+    /// Decodes the next bytes of a stream, one byte at a time. The frames of the stream were encoded with `sentinel`.
+    /// The function stops after the sentinel that ends the first piece. If no piece ends, it decodes all bytes. For the
+    /// sentinel 0, the effect and the result are those of [`feed_piece`](Self::feed_piece). The function doesn't search
+    /// ahead or copy slices, so its code is small, and it is fast for a few bytes. (The crate `cobs` has no such call.)
     ///
     /// ```
     /// let mut decoder = UnbufferedDecoder::new();
@@ -151,7 +153,7 @@ impl UnbufferedDecoder {
         ensures takes { TakesPiece dest.old (phase_of self.old) (xor_each sentinel bytes.now) result
             dest.new (phase_of self.new) }
     {
-        // The loop changes `here`, a copy of the decoder, which stays in registers. If the loop changed the decoder
+        // The loop changes `here`, a copy of the decoder that stays in registers. If the loop changed the decoder
         // itself, compilers would read the fields again after each byte that is written.
         let mut here = *self;
         let mut taken = 0;
@@ -179,8 +181,8 @@ impl UnbufferedDecoder {
                 return Some((PieceEnd::TooLong, taken));
             }
         }
-        // The fields are assigned one by one, because for an assignment of the whole decoder, rustc needs 24 bytes more
-        // for a push on a Cortex-M4.
+        // The fields are assigned one by one. If the whole decoder is assigned, rustc needs 24 bytes more for a push on
+        // a Cortex-M4.
         self.written = here.written;
         self.missing = here.missing;
         self.joint = here.joint;

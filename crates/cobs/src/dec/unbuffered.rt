@@ -17,13 +17,13 @@ use cobs_bytes::window::{WINDOW, has_vectors};
 /// Decodes a stream of frames, each ended by a zero, into a buffer that the caller passes to each call.
 ///
 /// This decoder returns the same results as [`CobsDecoder`](crate::CobsDecoder). An `UnbufferedDecoder` has no buffer
-/// of its own, only a few numbers. So a program can use the buffer for other data between two pieces, and a decoder can
-/// be in a struct together with its buffer, or be passed to another language.
+/// of its own, only a few numbers. So a program can use the buffer for other data between two pieces. A decoder can be
+/// in a struct together with its buffer, or be passed to code in another language.
 ///
 /// A piece is open from its first byte to the zero that ends it. While a piece is open, the caller must pass the same
-/// buffer to each call, and must not change the buffer between two calls. If the caller passes another buffer, of any length,
-/// each call is still safe: no call panics or returns a message that is longer than the buffer. But the results for
-/// that piece, and the bytes of the buffer, are then unspecified.
+/// buffer to each call, and must not change the buffer between two calls. If the caller passes another buffer, of any
+/// length, each call is still safe: no call panics or returns a message that is longer than the buffer. But the results
+/// for that piece, and the bytes of the buffer, are then unspecified.
 ///
 /// ```
 /// let mut decoder = UnbufferedDecoder::new();
@@ -45,8 +45,8 @@ pub struct UnbufferedDecoder {
     pub written: usize,
     /// How many bytes of the open block are still missing.
     pub missing: u8,
-    /// Not 0 if the piece has begun, and the code of its last block so far is less than 255. If another block follows,
-    /// the output then has a zero between the bytes of the two blocks.
+    /// Not 0 if a piece has begun and the code of its last block so far is less than 255. If another block follows this
+    /// block, the output has a zero between the bytes of the two blocks.
     pub joint: u8,
     /// Not 0 if the piece's output is too long for the buffer.
     pub too_long: u8,
@@ -113,8 +113,8 @@ impl UnbufferedDecoder {
     }
 
     /// Decodes the next byte of the stream, with `dest` as the buffer. The results and errors are those of
-    /// [`CobsDecoder::feed`](crate::CobsDecoder::feed). As long as the output of the piece fits the buffer, the byte
-    /// has the same effect on the decoder's state as on a [`DecoderState`](crate::DecoderState).
+    /// [`CobsDecoder::feed`](crate::CobsDecoder::feed). As long as the output of the piece fits the buffer, the fed
+    /// byte changes the decoder's state in the same way as it changes a [`DecoderState`](crate::DecoderState).
     ///
     /// ```
     /// let mut buffer = [0; 2];
@@ -164,7 +164,8 @@ impl UnbufferedDecoder {
         let mut at = 0;
         'by_run: while at < bytes.len() {
             at += self.take_at_once(dest, &bytes[at..]);
-            // The byte at `at` is a zero, or a byte of a piece that is too long. Without vectors it may be any byte.
+            // The byte at `at` is a zero, or a byte of a piece that is too long. On a target without vectors, it may be
+            // any byte.
             if at < bytes.len() {
                 let parsed_size = at + 1;
                 match self.feed(dest, bytes[at]) {
@@ -183,8 +184,8 @@ impl UnbufferedDecoder {
     }
 
     /// Decodes the next bytes of the stream, with `dest` as the buffer, and stops after the first zero that ends a
-    /// piece. The results are those of [`FrameDecoder::feed_piece`](crate::FrameDecoder::feed_piece). (This function is
-    /// this library's own.)
+    /// piece. The results are those of [`FrameDecoder::feed_piece`](crate::FrameDecoder::feed_piece). (The crate `cobs`
+    /// has no such call.)
     ///
     /// ```
     /// let mut decoder = UnbufferedDecoder::new();
@@ -251,9 +252,9 @@ impl UnbufferedDecoder {
         self.pass_to_end(dest, bytes, taken)
     }
 
-    /// Returns how many zeros `bytes` begins with, if no piece has begun: these zeros end no piece. Returns 0 if a
-    /// piece has begun. Some serial lines carry many zeros while nothing is sent. The caller ensures that there is at
-    /// least one byte.
+    /// Returns the number of zeros at the front of `bytes` if no piece has begun: these zeros end no piece. If a piece
+    /// has begun, the function returns 0. Some serial lines carry many zeros while no frame is sent. The caller ensures
+    /// that there is at least one byte.
     #[inline(always)]
     fn zeros_outside(&self, bytes: &[u8]) -> usize
         requires some { 0 < length bytes.now }
@@ -269,9 +270,9 @@ impl UnbufferedDecoder {
         }
     }
 
-    /// Skips the rest of a piece that is too long for the buffer: returns the index of the first zero from index `start`
-    /// on, or the number of bytes if there is no zero. The caller ensures that the buffer has no room for the output of
-    /// the byte at index `start`.
+    /// Skips the rest of a piece that is too long for the buffer. Returns the index of the first zero from index
+    /// `start` on, or the number of bytes if there is no such zero. The caller ensures that the buffer has no room for
+    /// the output of the byte at index `start`.
     // Not inlined, so that `take_to_end` needs fewer registers.
     #[inline(never)]
     fn pass_to_end(&mut self, dest: &mut [u8], bytes: &[u8], start: usize) -> usize
