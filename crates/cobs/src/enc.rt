@@ -38,13 +38,13 @@ pub use vector::{encode_vec, encode_vec_including_sentinels, encode_vec_with_sen
 ///
 /// The frame consists of blocks, as in Cheshire and Baker's paper. If the message ends in a run of nonzero bytes whose
 /// length is a positive multiple of 254, the message has two frames: the longer frame is the shorter frame followed by
-/// the byte `1`. It is a choice of this library that this function writes the shorter frame. No byte of the frame is
-/// the sentinel 0, and no sentinel is written before or after the frame. The bytes of `dest` after the frame stay as
-/// they were.
+/// the byte `1`. This function writes the shorter frame (a choice of this library). No byte of the frame is the
+/// sentinel 0, and no sentinel is written before or after the frame. The bytes of `dest` after the frame stay as they
+/// were.
 ///
-/// Precondition: the frame fits `dest`. If `dest` is as long as [`max_encoding_length`](crate::max_encoding_length)
-/// returns for the message's length, the frame always fits. If you don't know whether the frame fits, call
-/// [`try_encode`], which returns an error if the frame doesn't fit.
+/// Precondition: the frame fits `dest`. For the message's length, [`max_encoding_length`](crate::max_encoding_length)
+/// returns a length of `dest` that is always enough. If you don't know whether the frame fits, call [`try_encode`],
+/// which returns an error if the frame doesn't fit.
 ///
 /// ```
 /// let mut dest = [170; 6];
@@ -72,8 +72,8 @@ pub fn encode(source: &[u8], dest: &mut [u8]) -> usize
     encode_long(source, dest)
 }
 
-/// Encodes a message of any length as [`encode`] does. This function is separate from `encode`, because otherwise
-/// `encode` would save registers for the loop over a long message even if the message is short.
+/// Encodes a message of any length as [`encode`] does. This function is separate from `encode`: otherwise `encode`
+/// would save registers for the loop of a long message, even when it encodes a short message.
 #[inline(never)]
 #[tactic(auto, using(crate::proofs::encoding::TakingLemmas::from_start))]
 fn encode_long(source: &[u8], dest: &mut [u8]) -> usize
@@ -93,8 +93,8 @@ fn encode_long(source: &[u8], dest: &mut [u8]) -> usize
 /// the frame's length in bytes.
 ///
 /// # Errors
-/// `DestBufTooSmallError` exactly if the frame is longer than `dest`. Then no byte of `dest` has changed. (The crate
-/// `cobs` doesn't guarantee this.)
+/// `DestBufTooSmallError` exactly if the frame is longer than `dest`. Then no byte of `dest` has changed. (This
+/// guarantee is this library's own.)
 ///
 /// ```
 /// let mut dest = [170; 5];
@@ -142,8 +142,8 @@ fn try_encode_any(source: &[u8], dest: &mut [u8]) -> Result<usize, DestBufTooSma
     Ok(close(dest, &encoder))
 }
 
-/// Encodes a message of up to 254 bytes with the sentinel `sentinel`, and returns the frame's length in bytes. The
-/// caller ensures that the frame fits `dest`.
+/// Encodes a message of up to 254 bytes for `sentinel`, and returns the frame's length in bytes. The caller ensures
+/// that the frame fits `dest`.
 #[inline(always)]
 #[tactic(auto, using(crate::proofs::format::LengthLemmas::bounds))]
 fn encode_block(source: &[u8], dest: &mut [u8], sentinel: u8) -> usize
@@ -153,16 +153,16 @@ fn encode_block(source: &[u8], dest: &mut [u8], sentinel: u8) -> usize
     ensures len { result ≡ encoded_len source.now }
     ensures rest { drop result dest.new ≡ drop result dest.old }
 {
-    // The length that `encode` returns isn't used. The frame's length is computed from the message's length, because
-    // the compiler may know the message's length.
+    // The length that `encode` returns isn't used: the frame's length is computed from the message's length, which may
+    // be known to the compiler.
     let _len = encode(source, dest);
     let len = source.len() + 1;
     xor_bytes(&mut dest[..len], sentinel);
     len
 }
 
-/// Encodes a message of 1 to 4 bytes with the sentinel `sentinel`, and returns the frame's length in bytes. If the
-/// message has another length, or if the frame doesn't fit `dest`, the function returns `None` and changes nothing.
+/// Encodes a message of 1 to 4 bytes for `sentinel`, and returns the frame's length in bytes. If the message has
+/// another length, or if the frame doesn't fit `dest`, the function returns `None` and changes nothing.
 // There is a match arm for each length, so that compilers unroll the loops.
 #[inline(always)]
 fn encode_few(source: &[u8], dest: &mut [u8], sentinel: u8) -> Option<usize>

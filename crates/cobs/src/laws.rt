@@ -1,7 +1,7 @@
 //! The laws of messages, frames, pieces and streams. Each law is a function whose contract states the law. The function
 //! does nothing when it runs. If a function calls a law, the function's proof can use the law. The example of each law
-//! is a function that calls it. Some examples call `reads_as`, the function that CALLING.md shows. If an example needs
-//! a proof, its `Answers.antt` follows, without the line `use Rattle.CRATE.proofs.CALLER.Goals as goal`.
+//! is such a caller. Some examples call `reads_as`, the function that CALLING.md shows. If an example needs a proof,
+//! the proof follows it: the caller's `Answers.antt` without the line `use Rattle.CRATE.proofs.CALLER.Goals as goal`.
 //!
 //! ```
 //! fn encode_by_longest(source: &[u8], dest: &mut [u8]) -> usize
@@ -58,9 +58,9 @@ pub fn law_1()
 /// Each message has one encoded frame.
 ///
 /// Each message has exactly one encoded frame. All encoders that write this frame write the same bytes. A program can
-/// compare encoded frames instead of messages, for example to find a message in a store or check a signature. An encoded
-/// frame's length (`encoded_len`) decides whether `try_encode` and `CobsEncoder` accept the message. In the clauses,
-/// messages and frames are lists of numbers. If the numbers of a message are below 256, so are those of its frame.
+/// compare encoded frames instead of messages, for example to find a message in a store or to check a signature. An
+/// encoded frame's length (`encoded_len`) decides whether `try_encode` and `CobsEncoder` accept the message. In the
+/// clauses, messages and frames are lists of numbers. If a message's numbers are below 256, so are its frame's.
 ///
 /// ```
 /// fn encode_again(message: &[u8], frame: &[u8], dest: &mut [u8]) -> usize
@@ -109,10 +109,10 @@ pub fn law_3()
 
 /// The length of a frame, and its bound.
 ///
-/// An encoded frame is longer than its message, but not longer than the bound that
-/// [`max_encoding_length`](crate::max_encoding_length) returns for the message's length. The frame of a message without
-/// zeros is as long as this bound. So for every length of a message, some frame reaches the bound. If bytes are
-/// appended to a message, its frame doesn't get shorter.
+/// An encoded frame is longer than its message, and has at most as many bytes as
+/// [`max_encoding_length`](crate::max_encoding_length) returns for the message's length. The frame of a message without zeros
+/// is as long as this bound, so for every length of a message some frame reaches the bound. If bytes are appended to a message,
+/// its frame doesn't get shorter.
 ///
 /// ```
 /// fn encode_nonzero(source: &[u8], dest: &mut [u8]) -> usize
@@ -135,8 +135,8 @@ pub fn law_4()
 
 /// Equal frames, equal messages.
 ///
-/// Messages with equal encoded frames are equal, and a frame reads as only one message. So a frame contains all
-/// information of its message, and no receiver reads another message from the frame.
+/// Messages with equal encoded frames are equal, and a frame reads as only one message. So a frame keeps all information of its
+/// message, and no receiver reads another message from it.
 ///
 /// ```
 /// fn are_equal(alloc: Global, first: &[u8], second: &[u8]) -> Result<bool, AllocError>
@@ -155,12 +155,12 @@ pub fn law_5()
 
 /// No frame contains its sentinel; a second XOR restores the frame.
 ///
-/// If each byte of a frame for the sentinel 0 is XORed with the same byte `s`, the result is a frame for the sentinel
-/// `s`. The frame for `s` doesn't contain `s`, and a second XOR with `s` restores the frame for 0.
+/// If each byte of a frame for the sentinel 0 is XORed with another byte `s`, the result is a frame for the sentinel `s`. The
+/// frame for `s` doesn't contain `s`, and a second XOR with `s` restores the frame for 0.
 ///
 /// A frame must not contain its sentinel, so that a receiver can find the end of a frame by searching for the sentinel.
-/// The clause `free` states this for a frame that is sent, and `received` for received bytes that are a frame after the
-/// XOR. Bytes without `s` contain no zero after the XOR (`coded`). An XOR with 0 changes nothing (`zero`).
+/// The clause `free` states this for a sent frame, and `received` for received bytes that are a frame after the XOR.
+/// Bytes that don't contain `s` contain no zero after the XOR (`coded`), and an XOR with 0 changes nothing (`zero`).
 ///
 /// ```
 /// fn as_received<'a>(frame: &'a [u8], sentinel: u8) -> &'a [u8]
@@ -248,10 +248,10 @@ pub fn law_8()
 /// A stream may be cut anywhere.
 ///
 /// The unended bytes of a stream are the bytes after its last zero. Cut a stream into two chunks, and put the unended
-/// bytes of the first chunk before the second. Then the outcomes of the whole stream are those of the first chunk, then
-/// those of the extended second chunk. The same is true for the pieces that a zero ends. The unended bytes of the whole
-/// stream are those of the extended second chunk. A stream that ends in a zero has no unended bytes. A stream without
-/// zeros has no outcome, and only unended bytes. One or more nonzero bytes that a zero ends are one piece.
+/// bytes of the first chunk before the second. Then the outcomes of the whole stream are those of the first chunk,
+/// followed by those of the extended second chunk. The same is true for the pieces that a zero ends. The whole stream
+/// has the unended bytes of the extended second chunk. A stream that ends in a zero has no unended bytes. A stream
+/// without zeros has no outcome, and only unended bytes. One or more nonzero bytes that a zero ends are one piece.
 ///
 /// So a receiver may decode a stream in chunks of any length, as reads return them. The outcomes of all chunks, in
 /// order, are the outcomes of one call for the whole stream. `decode_stream`, `push` and `FrameReader` use this law.
@@ -291,7 +291,7 @@ pub fn law_9()
 ///
 /// If bytes between two sentinels are changed, lost or added, the pieces before the first sentinel and after the second
 /// sentinel keep their outcomes, even if the damage adds sentinels. If there are bytes between the two sentinels, but
-/// no sentinel, they are one piece, with one outcome. If the sentinels are adjacent, there is no piece between them.
+/// no sentinel, these bytes are one piece, with one outcome. If the two are adjacent, there is no piece between them.
 ///
 /// So a receiver on a noisy line, or a reader of a damaged file of records, loses only the messages that the damage touches.
 ///
@@ -349,11 +349,11 @@ pub fn law_11()
 /// The first and the last piece of a stream.
 ///
 /// If a stream begins with a nonzero byte, its first piece consists of the bytes before the first zero. In a buffer as
-/// long as the stream, the outcome of the first piece is the message m exactly if the piece reads as m. Zeros before the
-/// first piece are skipped: the piece begins after these zeros, and ends at the next zero or at the end of the stream. A
-/// stream that is empty or has only zeros has no piece. If none of the first n bytes is a zero, and a zero or the
-/// stream's end follows these bytes, they are the bytes before the first zero (`head`). The same is true for any other
-/// sentinel (`head_for`). As long as no piece has ended, the unended bytes are the last piece, and the next zero ends it.
+/// long as the stream, the outcome of the first piece is the message m exactly if the piece reads as m. Zeros before
+/// the first piece are skipped: the piece begins after these zeros, and ends at the next zero or at the end of the
+/// stream. A stream that is empty, or that has only zeros, has no piece. A search finds the bytes before the first zero
+/// (`head`) if it stops at this zero or, in a stream without zeros, at the end. The same is true for any other sentinel
+/// (`head_for`). As long as no piece has ended, the unended bytes are the last piece, and the next zero ends it.
 ///
 /// So `decode`, with a buffer as long as the source, and `decode_in_place` agree about a source that begins with a nonzero
 /// byte: both return the same message, or both return an error.
@@ -426,8 +426,8 @@ pub fn law_13()
 
 /// A decoder is idle exactly if no piece has begun.
 ///
-/// So [`FrameReader::new`](crate::FrameReader::new) accepts a decoder whose last fed byte was a zero. If a frame and
-/// the zero after it are pushed to a new decoder in one `push`, the decoder decodes the frame.
+/// So [`FrameReader::new`](crate::FrameReader::new) accepts a decoder that was last fed a zero. One `push` of a frame and its
+/// zero to a new decoder decodes the frame.
 ///
 /// ```
 /// fn reader_after_zero(mut decoder: CobsDecoderOwned) -> FrameReader<CobsDecoderOwned>
