@@ -17,7 +17,7 @@ use thiserror::Error;
 #[error("out of bounds error during encoding")]
 pub struct DestBufTooSmallError;
 
-/// The reason why a frame is rejected. The names of the variants are those of the crate `cobs`.
+/// The reason why a frame is rejected. The names of the variants are those of the Rust crate `cobs`.
 ///
 /// ```
 /// assert_eq!(rt; decode(&[], &mut [0; 4]), Err(DecodeError::EmptyFrame));
@@ -43,8 +43,8 @@ pub enum DecodeError {
     TargetBufTooSmall,
 }
 
-/// The error of a `push` to a streaming decoder, with the number of bytes that were consumed. (The crate `cobs` has no
-/// such type.)
+/// The error of a `push` to a streaming decoder, with the number of bytes that were consumed. The Rust crate `cobs` has
+/// no such type.
 ///
 /// The decoder has consumed the first `parsed_size` of the pushed bytes. To continue, the caller pushes the bytes that
 /// weren't consumed.
@@ -69,7 +69,7 @@ pub struct PushError {
 }
 
 /// The reason why a call returned no vector. If memory runs out, the call returns `Memory` and doesn't abort the
-/// program. (The crate `cobs` has no such type.)
+/// program. The Rust crate `cobs` has no such type.
 ///
 /// ```
 /// let rejected = Err(DecodeVecError::Decode(DecodeError::EmptyFrame));
@@ -87,7 +87,7 @@ pub enum DecodeVecError {
 }
 
 /// A report about a decoded message: how many bytes of the source were consumed, and how many bytes the message has.
-/// The names of the methods are those of the crate `cobs`.
+/// The names of the methods are those of the Rust crate `cobs`.
 ///
 /// ```
 /// let report = decode(&[0, 3, 1, 2, 0, 1], &mut [0; 4])?;
@@ -125,7 +125,7 @@ impl DecodeReport {
     }
 }
 
-/// The former name of [`DecodeReport`]. This name has been deprecated since version 0.5.0 of the crate `cobs`: use
+/// The former name of [`DecodeReport`]. This name has been deprecated since version 0.5.0 of the Rust crate `cobs`: use
 /// `DecodeReport`.
 ///
 /// ```

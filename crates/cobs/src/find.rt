@@ -6,8 +6,8 @@ ghost use Rattle.cobs.specs.Grammar.{HasNoZero};
 use cobs_bytes::window::{WIDE_WINDOW, WINDOW, first_zero, has_vectors, zeros_at};
 use memchr::memchr;
 
-/// Returns how many zeros the source begins with. [`decode`](crate::decode) skips these zeros before a frame. (The
-/// crate `cobs` has no such call.)
+/// Returns how many zeros the source begins with. [`decode`](crate::decode) skips these zeros before a frame. The Rust
+/// crate `cobs` has no such call.
 ///
 /// ```
 /// assert_eq!(rt; leading_zeros(&[0, 0, 2, 7, 0]), 2);
@@ -36,15 +36,15 @@ pub(crate) fn position_or_len(source: &[u8], byte: u8) -> usize
 }
 
 /// Returns how many bytes come before the first zero, or the length of `bytes` if there is no zero. The function is
-/// small, because it uses no SIMD vectors. (The crate `cobs` has no such call.)
+/// small, because it uses no SIMD vectors. The Rust crate `cobs` has no such call.
 ///
 /// ```
 /// assert_eq!(rt; len_to_zero(&[3, 7, 8, 0, 2]), 3);
 /// assert_eq!(rt; len_to_zero(&[3, 7]), 2);
 /// ```
-// Not inlined, so that its loops can use all registers of a small processor. The loops advance the address of the
-// remaining bytes, so that no address is computed from an index. With four bytes per iteration, a byte costs half as
-// many instructions as with one byte per iteration.
+// This function isn't inlined, so that its loops can use all registers of a small processor. The loops advance the
+// address of the remaining bytes, so that no address is computed from an index. With four bytes per iteration, a byte
+// costs half as many instructions as with one byte per iteration.
 #[inline(never)]
 pub fn len_to_zero(bytes: &[u8]) -> usize
     ensures within { result ≤ length bytes.now }

@@ -5,7 +5,7 @@
 //! the end of the source, or a fault. The reader reads from the source only if no piece ends in the bytes that it kept
 //! from earlier reads. No byte is lost. The bytes after the end of a piece are kept for the next call. Before a fault
 //! is returned, all bytes that were read are fed to the decoder. No call of this module allocates. (The rule that a
-//! zero ends each piece is from Cheshire and Baker's paper. The crate `cobs` has no such module.)
+//! zero ends each piece is from Cheshire and Baker's paper. The Rust crate `cobs` has no such module.)
 ghost use Rattle.std.specs.Prelude.{◌≡◌, ℕ, ◌≤◌, List, [], ◌∷◌, ◌++◌, length, take, drop, Option, option_map, IfOk, IfNone, IfSome, OnSome, MatchOption};
 ghost use Rattle.cobs.specs.Grammar.{HasNoZero};
 ghost use Rattle.cobs.specs.Stream.{Outcome, stream_outcomes, unended, is_nonempty};
@@ -211,7 +211,7 @@ pub struct FrameReader<D: FrameDecoder> {
     start: usize,
     end: usize,
 
-    /// Whether a piece has begun and hasn't ended yet. If bytes have been fed, this is true exactly if the last byte
+    /// Whether a piece has begun and hasn't ended yet. If bytes have been fed, this is true exactly if the last of them
     /// isn't a zero.
     unfinished: bool,
 
@@ -304,9 +304,9 @@ impl<D: FrameDecoder> FrameReader<D> {
     /// `Next::End` if the source ends before such a zero.
     ///
     /// The call first uses the bytes that earlier calls have kept. If no piece ends in these bytes, the call makes up
-    /// to 65,536 reads from the source. It stops after the first read that returned the end of a piece, that failed, or
-    /// that returned no bytes. The bytes after the end of the piece are kept for the next call. After `Next::End` the
-    /// stream may continue, in this source or in another one.
+    /// to 65,536 reads from the source. The call stops after the first read that returned the end of a piece, that
+    /// failed, or that returned no bytes. The bytes after the end of the piece are kept for the next call. After
+    /// `Next::End` the stream may continue, in this source or in another one.
     ///
     /// # Errors
     /// - `Io` if the last read of this call failed.

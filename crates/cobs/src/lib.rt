@@ -1,4 +1,4 @@
-//! Consistent Overhead Byte Stuffing (COBS), with calls modelled on those of the crate `cobs` 0.5.1.
+//! Consistent Overhead Byte Stuffing (COBS), with calls modelled on those of the Rust crate `cobs` 0.5.1.
 //!
 //! COBS turns a message, which may be any bytes, into a frame that never contains a chosen byte value, usually 0. This
 //! byte value is the delimiter; this library calls it the sentinel. The sentinel marks the end of each frame on a

@@ -211,7 +211,7 @@ impl WriteBuffer for CobsDecoder<'_> {
 ///
 /// This decoder returns the same results as [`CobsDecoder`](crate::CobsDecoder). Memory is allocated once, by `new`,
 /// and the buffer keeps its length. The rule that a zero ends each frame is from Cheshire and Baker's paper. The calls
-/// are those of the crate `cobs`.
+/// are those of the Rust crate `cobs`.
 ///
 /// ```
 /// let mut decoder = CobsDecoderOwned::new(alloc, 8)?;

@@ -16,7 +16,7 @@ use crate::find::{leading_zeros, len_to, len_to_zero};
 
 /// Decodes the first `end` bytes of the buffer as one frame, in the buffer itself and one byte at a time. Returns the
 /// message's length in bytes. The message is then at the front of the buffer, and every byte after the message is as it
-/// was. The code of this function is small, and uses no SIMD vectors. (The crate `cobs` has no such call.)
+/// was. The code of this function is small, and uses no SIMD vectors. The Rust crate `cobs` has no such call.
 ///
 /// Precondition: the buffer has at least `end` bytes, and none of its first `end` bytes is a zero.
 /// [`len_to_zero`](crate::len_to_zero) returns the number of bytes before the first zero.
@@ -31,7 +31,7 @@ use crate::find::{leading_zeros, len_to, len_to_zero};
 /// assert_eq!(rt; decode_blocks_each(&mut buffer, 5), Ok(4));
 /// assert_eq!(rt; buffer, [10, 11, 0, 12, 12, 0]);
 /// ```
-// Not inlined, so that its loops can use all registers of a small processor.
+// This function isn't inlined, so that its loops can use all registers of a small processor.
 #[inline(never)]
 pub fn decode_blocks_each(buffer: &mut [u8], end: usize) -> Result<usize, DecodeError>
     requires within { end ≤ length buffer.old }
@@ -89,7 +89,7 @@ pub(crate) fn decode_in_place_each(buf: &mut [u8]) -> Result<DecodeReport, Decod
 
 /// Finds the first zero of the source from index `at` on. Returns the index after this zero, or the source's length if
 /// there is no zero from `at` on.
-// Not inlined, so that the loops of its caller can use all registers of a small processor.
+// This function isn't inlined, so that the loops of its caller can use all registers of a small processor.
 #[inline(never)]
 fn through_piece(source: &[u8], at: usize) -> usize
     requires within { at ≤ length source.now }
@@ -123,8 +123,8 @@ fn ended(written: usize, missing: usize, at: usize) -> Option<(PieceEnd, usize)>
 /// Returns `None` if the source has no piece.
 ///
 /// This function decodes as [`decode`](crate::decode) does, but it returns the number of consumed bytes even if the
-/// piece is broken or too long. The code of this function is small, and uses no SIMD vectors. (The crate `cobs` has no
-/// such call.)
+/// piece is broken or too long. The code of this function is small, and uses no SIMD vectors. The Rust crate `cobs` has
+/// no such call.
 ///
 /// ```
 /// let mut dest = [170; 3];

@@ -10,7 +10,7 @@ ghost use Rattle.cobs.specs.Fields.Lending.{LendsBytes};
 
 use crate::error::DecodeError;
 
-/// How a piece of a stream ended. (The crate `cobs` has no such type.)
+/// How a piece of a stream ended. The Rust crate `cobs` has no such type.
 ///
 /// ```
 /// let mut decoder = CobsDecoderHeapless::<1>::new();
@@ -59,7 +59,7 @@ impl PieceEnd {
 /// output.
 ///
 /// Contracts describe a decoder by the bytes of its buffer and by its phase, that is, the facts that the decoder keeps
-/// about the piece so far. (The crate `cobs` has no such trait.)
+/// about the piece so far. The Rust crate `cobs` has no such trait.
 ///
 /// ```
 /// let mut decoder = CobsDecoderHeapless::<4>::new();
@@ -146,7 +146,7 @@ pub trait FrameDecoder {
 /// caller of `CobsDecoder::dest_mut` can use facts about the bytes of the slice while the returned reference is in use.
 /// After the write, the proof can't use facts about the decoder's state, because a `CobsDecoder` borrows its slice. If
 /// the proof needs these facts, the caller writes with [`write_dest`](WriteBuffer::write_dest) instead, or, in generic
-/// code, with the `dest_mut` of this trait. (The crate `cobs` has no such trait.)
+/// code, with the `dest_mut` of this trait. The Rust crate `cobs` has no such trait.
 ///
 /// ```
 /// let mut buffer = [0; 3];

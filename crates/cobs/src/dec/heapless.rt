@@ -16,7 +16,7 @@ use arrayvec::ArrayVec;
 /// Decodes a stream of frames, each ended by a zero, into a buffer of `N` bytes that is part of the decoder itself.
 ///
 /// This decoder returns the same results as [`CobsDecoder`](crate::CobsDecoder), and it doesn't allocate. The rule that
-/// a zero ends each frame is from Cheshire and Baker's paper. The calls are those of the crate `cobs`.
+/// a zero ends each frame is from Cheshire and Baker's paper. The calls are those of the Rust crate `cobs`.
 ///
 /// ```
 /// let mut decoder = CobsDecoderHeapless::<2>::new();

@@ -184,8 +184,8 @@ fn decode_span_in_place(buffer: &mut [u8], len: usize) -> bool
 /// assert_eq!(rt; report.frame_size(), 4);
 /// assert_eq!(rt; buf, [10, 11, 0, 12, 12, 0]);
 /// ```
-// Inlined, because a call would return its result in memory. Such a call costs as much as decoding a frame of a few
-// bytes.
+// This function is inlined, because a call would return its result in memory. Such a call costs as much time as
+// decoding a frame of a few bytes.
 #[inline(always)]
 pub fn decode_in_place_report(buf: &mut [u8]) -> Result<DecodeReport, DecodeError>
     ensures answer { result ≡ in_place_report buf.old }
@@ -217,7 +217,7 @@ pub fn decode_in_place_report(buf: &mut [u8]) -> Result<DecodeReport, DecodeErro
 /// The buffer is decoded if it consists of a whole frame of 2 to 65 bytes, with or without one zero after the frame. If
 /// the target has SIMD vectors, [`decode_in_place_report`] calls this function first. Like
 /// [`decode_short`](crate::decode_short), this function is marked `#[inline(always)]`, and so are the functions of this
-/// library that it calls. (The crate `cobs` has no such call.)
+/// library that it calls. The Rust crate `cobs` has no such call.
 ///
 /// ```
 /// let mut buf = [3, 10, 11, 0];

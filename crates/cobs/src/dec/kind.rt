@@ -5,8 +5,8 @@ ghost use Rattle.cobs.specs.Grammar.{HasNoZero, IsCanonical, IsFrame};
 use crate::block::FULL_CODE;
 use crate::find::zero_or_len;
 
-/// Says whether some bytes are a frame, and whether the frame is the one that encoders write for its message. (The
-/// crate `cobs` has no such type.)
+/// Says whether some bytes are a frame, and whether the frame is the one that encoders write for its message. The Rust
+/// crate `cobs` has no such type.
 ///
 /// ```
 /// assert_eq!(rt; frame_kind(&[]), FrameKind::NotAFrame);
@@ -56,7 +56,7 @@ pub fn frame_kind(bytes: &[u8]) -> FrameKind
 }
 
 /// Returns whether the bytes are a frame, and which kind of frame, as [`frame_kind`] does. This function reads only the
-/// code of each block, and doesn't search the other bytes for a zero. (The crate `cobs` has no such call.)
+/// code of each block, and doesn't search the other bytes for a zero. The Rust crate `cobs` has no such call.
 ///
 /// Precondition: no byte is a zero.
 ///

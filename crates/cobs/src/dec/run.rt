@@ -135,8 +135,8 @@ impl UnbufferedDecoder {
             self.missing -= len as u8;
             return;
         }
-        // `missing` bytes of the open block are missing. The same number of bytes is missing directly after a code of
-        // `missing + 1`, so this code is passed.
+        // `missing` bytes of the open block are missing, as in a block that has just begun with the code `missing + 1`.
+        // So `missing + 1` is passed as the code.
         self.settle(write_zeros_at_codes(&mut dest[at..at + len], missing + 1));
     }
 
@@ -167,8 +167,8 @@ impl UnbufferedDecoder {
             self.missing -= len as u8;
             return;
         }
-        // `missing` bytes of the open block are missing. The same number of bytes is missing directly after a code of
-        // `missing + 1`, so this code is passed.
+        // `missing` bytes of the open block are missing, as in a block that has just begun with the code `missing + 1`.
+        // So `missing + 1` is passed as the code.
         self.settle(write_zeros_at_copied(&mut dest[at..at + len], copied, missing + 1, sentinel));
     }
 
@@ -201,7 +201,7 @@ impl UnbufferedDecoder {
     }
 
     /// Decodes `bytes` as one span, or decodes nothing. Returns whether it decoded the bytes; if it returns false,
-    /// nothing has changed. The function decodes the bytes exactly if all these conditions hold:
+    /// nothing has changed. The function decodes the bytes exactly if all of these conditions hold:
     ///
     /// - A piece has begun, and isn't too long for the buffer.
     /// - There are 1 to 31 bytes, and none of them is a zero.
@@ -230,10 +230,10 @@ impl UnbufferedDecoder {
         true
     }
 
-    /// Decodes `bytes`, the first bytes of a piece, and returns true, or decodes nothing and returns false. The caller
-    /// ensures that `bytes` has at most 65 bytes, and that none of them is a zero. The function decodes the bytes
-    /// exactly if there are at least 2 bytes, and `dest` has room for their output. The output is one byte shorter than
-    /// `bytes`.
+    /// Decodes `bytes`, the first bytes of a piece, or decodes nothing. Returns whether it decoded the bytes; if it
+    /// returns false, nothing has changed. The caller ensures that `bytes` has at most 65 bytes, and that none of them
+    /// is a zero. The function decodes the bytes exactly if there are at least 2 bytes, and `dest` has room for their
+    /// output. The output is one byte shorter than `bytes`.
     #[inline(always)]
     pub(crate) fn take_front(&mut self, dest: &mut [u8], bytes: &[u8]) -> bool
         requires idle { phase_of self.old ≡ Idle }

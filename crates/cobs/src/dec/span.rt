@@ -146,8 +146,8 @@ pub(crate) fn decode_span(source: &[u8], dest: &mut [u8], sentinel: u8) -> Optio
 
 /// Returns how many of the last bytes of a piece have to be decoded, and whether the piece is whole. `bytes` are these
 /// last bytes. A whole piece is decoded to its end. A broken piece is decoded up to and including the code of its last
-/// block, because the kept output doesn't include the other bytes of that block. The first `left` bytes belong to a
-/// block that began before `bytes`. Each byte of `bytes` is XORed with the sentinel before it is read.
+/// block, because the kept output doesn't include the other bytes of that block. The first `left` bytes of `bytes`
+/// belong to a block that began before `bytes`. Each byte of `bytes` is XORed with the sentinel before it is read.
 pub(crate) fn kept_len(bytes: &[u8], left: usize, sentinel: u8) -> (usize, bool)
     requires left { left ≤ length bytes.now }
     requires nonzero { HasNoZero (xor_each sentinel bytes.now) }

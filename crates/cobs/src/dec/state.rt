@@ -135,7 +135,8 @@ impl DecoderState {
     /// - For a byte inside a block, the result is `DataContinue` with this byte.
     ///
     /// Every state has a result for every byte, even a state that no frame leads to, such as `Grab(255)`. The rules for
-    /// blocks are those of the paper by Cheshire and Baker. The names of the results are those of the crate `cobs`.
+    /// blocks are those of the paper by Cheshire and Baker. The names of the results are those of the Rust crate
+    /// `cobs`.
     ///
     /// # Errors
     /// `InvalidFrame` for a sentinel inside a block. The `decoded_bytes` of this error is always 0 here, because the

@@ -56,8 +56,8 @@ impl UnbufferedDecoder {
     /// then holds. If the output of the piece is too long for the buffer, the function returns the buffer's length.
     ///
     /// For a nonzero byte, [`feed`](Self::feed) makes the same step. Pass a zero, which ends a piece, to `feed`. If you
-    /// pass a zero to `take_byte`, the results for the open piece and the bytes of the buffer are unspecified. (The
-    /// crate `cobs` has no such call.)
+    /// pass a zero to `take_byte`, the results for the open piece and the bytes of the buffer are unspecified. The Rust
+    /// crate `cobs` has no such call.
     ///
     /// ```
     /// let mut buffer = [0; 4];
@@ -132,7 +132,8 @@ impl UnbufferedDecoder {
     /// Decodes the next bytes of a stream, one byte at a time. The frames of the stream were encoded with `sentinel`.
     /// The function stops after the sentinel that ends the first piece. If no piece ends, it decodes all bytes. For the
     /// sentinel 0, the effect and the result are those of [`feed_piece`](Self::feed_piece). The function doesn't search
-    /// ahead or copy slices, so its code is small, and it is fast for a few bytes. (The crate `cobs` has no such call.)
+    /// ahead or copy slices, so its code is small, and it is fast for a few bytes. The Rust crate `cobs` has no such
+    /// call.
     ///
     /// ```
     /// let mut decoder = UnbufferedDecoder::new();

@@ -184,8 +184,8 @@ impl UnbufferedDecoder {
     }
 
     /// Decodes the next bytes of the stream, with `dest` as the buffer, and stops after the first zero that ends a
-    /// piece. The results are those of [`FrameDecoder::feed_piece`](crate::FrameDecoder::feed_piece). (The crate `cobs`
-    /// has no such call.)
+    /// piece. The results are those of [`FrameDecoder::feed_piece`](crate::FrameDecoder::feed_piece). The Rust crate
+    /// `cobs` has no such call.
     ///
     /// ```
     /// let mut decoder = UnbufferedDecoder::new();
@@ -233,8 +233,8 @@ impl UnbufferedDecoder {
 
     /// Decodes the bytes before the first zero that ends a piece, and returns the index of this zero. If no piece ends in
     /// `bytes`, decodes all bytes and returns their number. The caller ensures that there is at least one byte.
-    // Not inlined, so that `feed_piece` doesn't have to save registers if the piece is short. The result is only a
-    // number, because a number is returned in a register.
+    // This function isn't inlined, so that `feed_piece` doesn't have to save registers if the piece is short. The
+    // result is only a number, because a number is returned in a register.
     #[inline(never)]
     fn take_to_end(&mut self, dest: &mut [u8], bytes: &[u8]) -> usize
         requires some { 0 < length bytes.now }
@@ -273,7 +273,7 @@ impl UnbufferedDecoder {
     /// Skips the rest of a piece that is too long for the buffer. Returns the index of the first zero from index
     /// `start` on, or the number of bytes if there is no such zero. The caller ensures that the buffer has no room for
     /// the output of the byte at index `start`.
-    // Not inlined, so that `take_to_end` needs fewer registers.
+    // This function isn't inlined, so that `take_to_end` needs fewer registers.
     #[inline(never)]
     fn pass_to_end(&mut self, dest: &mut [u8], bytes: &[u8], start: usize) -> usize
         requires start { start < length bytes.now }

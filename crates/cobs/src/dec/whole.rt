@@ -92,7 +92,7 @@ fn decode_long(source: &[u8], dest: &mut [u8]) -> Result<DecodeReport, DecodeErr
 /// The source must consist of `n` nonzero bytes, with or without one zero after them. The number `n` must be from 2 to
 /// 65, and `dest` must have at least `n - 1` bytes. If the target has SIMD vectors, [`decode`] calls this function
 /// first. `decode_short` and the functions of this library that it calls are marked `#[inline(always)]`, so a caller
-/// decodes a short frame without a function call. (The crate `cobs` has no such call.)
+/// decodes a short frame without a function call. The Rust crate `cobs` has no such call.
 ///
 /// ```
 /// let mut dest = [170; 3];
