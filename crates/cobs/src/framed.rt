@@ -69,7 +69,7 @@ pub enum ReadFault {
     TooManyReads,
 }
 
-/// A source of the bytes of a stream.
+/// A source from which the bytes of a stream are read.
 ///
 /// Contracts describe a source by the relation `step`. `step before result after` holds if a read of a source in the
 /// state `before` may have this result and leave the source in the state `after`. The result of a read is a failure, or

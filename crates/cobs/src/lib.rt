@@ -76,7 +76,7 @@
 //! Other calls, and the laws:
 //!
 //! - [`decode_stream`] decodes a recorded stream, and [`encode_frames`] makes a stream.
-//! - [`max_encoding_length`] returns the length of a buffer that has room for the frame of any message of a given
+//! - [`max_encoding_length`] returns how long a buffer must be to have room for the frame of any message of a given
 //!   length.
 //! - [`frame_kind`] returns whether some bytes are a frame, and whether this frame is the shortest frame of its
 //!   message.
@@ -119,7 +119,7 @@ pub use find::{leading_zeros, len_to_zero};
 pub use framed::{FrameReader, FrameSource, Next, ReadFault, Recorded};
 pub use stream::{FrameOutcome, decode_stream, encode_frames, encode_frames_room};
 
-/// Returns the greatest overhead, in bytes, that the encoded frame of a message of `source_len` bytes can have. The
+/// Returns the greatest overhead, in bytes, that an encoded frame can have if its message has `source_len` bytes. The
 /// overhead of a frame is its length minus the length of its message.
 ///
 /// The greatest overhead is `source_len / 254`, rounded up, or 1 if the message is empty. A message without zeros has
@@ -141,8 +141,8 @@ pub fn max_encoding_overhead(source_len: usize) -> usize
     source_len.div_ceil(254)
 }
 
-/// Returns the length in bytes of the longest encoded frame that a message of `source_len` bytes can have. A buffer of
-/// this length has room for the frame of any message of `source_len` bytes. Sentinels aren't counted.
+/// Returns the length, in bytes, of the longest encoded frame that a message of `source_len` bytes can have. A buffer
+/// of this length has room for the frame of any message of `source_len` bytes. Sentinels aren't counted.
 ///
 /// Precondition: the length of the longest frame fits a `usize`. This is true for every `source_len` up to
 /// `isize::MAX`.

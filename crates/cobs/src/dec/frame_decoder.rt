@@ -95,7 +95,7 @@ pub trait FrameDecoder {
     ///
     /// - Returns `None` if no piece ended in these bytes. In this case all of these bytes were decoded.
     /// - Returns `Some((end, count))` if the zero at index `count - 1` ended a piece; `end` says how the piece ended.
-    ///   The bytes after that zero had no effect, so the caller continues with the byte at index `count`, even if the
+    ///   The bytes after that zero had no effect. So the caller continues with the byte at index `count`, even if the
     ///   piece is too long for the buffer.
     ///
     /// The bytes of the buffer after the piece's output are as they were.

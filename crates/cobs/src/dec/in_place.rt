@@ -1,4 +1,4 @@
-//! Decoding a frame in its own buffer.
+//! Decoding a frame in the buffer that holds it.
 ghost use Rattle.std.specs.Prelude.{◌≡◌, ◌≢◌, ◌+◌, ◌-◌, ◌<◌, ◌≤◌, ◌++◌, ℕ, IsTrue, false, List, None, Ok, length, take, drop, IfSome, IfErr, IsSome};
 ghost use Rattle.cobs.specs.Overwritten.{overwritten};
 ghost use Rattle.cobs.specs.Decode.{IsShortPiece, head_result, in_place, result_in_place, in_place_report};

@@ -61,10 +61,10 @@ impl UnbufferedDecoder {
         }
     }
 
-    /// Decodes the code of a new block, and then as many bytes of this block as `bytes` has and `dest` has room for.
-    /// Returns how many bytes it decoded, including the code. The caller ensures that the preceding block, if there is
-    /// one, is whole. The function returns 0 only if `dest` has no room for the zero that joins the preceding block and
-    /// the new block.
+    /// Decodes the code of a new block, and then the bytes of this block that follow in `bytes`, as long as `dest` has
+    /// room for them. Returns how many bytes it decoded, including the code. The caller ensures that the preceding
+    /// block, if there is one, is whole. The function returns 0 only if `dest` has no room for the zero that joins the
+    /// preceding block and the new block.
     #[inline(always)]
     fn take_block(&mut self, dest: &mut [u8], bytes: &[u8], sentinel: u8) -> usize
         requires going { self.old.too_long ≡ 0 }

@@ -1,4 +1,4 @@
-//! The step of a streaming decoder for one byte, and a loop that makes one step for each byte.
+//! The step that a streaming decoder makes for one byte, and a loop that makes one step for each byte.
 ghost use Rattle.std.specs.Prelude.{◌≡◌, ◌≢◌, ◌≤◌, length};
 ghost use Rattle.cobs.specs.Feed.{Idle};
 ghost use Rattle.cobs.specs.FeedPiece.{TakesPiece};
