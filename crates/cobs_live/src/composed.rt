@@ -33,7 +33,7 @@ const LINE: usize = 50;
 /// The greatest length in bytes of a composed text.
 const ROOM: usize = 2_048;
 
-/// The error of a call whose text doesn't fit.
+/// The error of a call if its text doesn't fit the room that is left.
 #[derive(Debug, PartialEq, Eq, Clone, Copy)]
 struct Full;
 
@@ -155,9 +155,9 @@ impl Composed {
     }
 
     /// Replaces the composed text by the text of a piece, and returns whether this succeeded. It succeeds only if the
-    /// piece is a short message, its text fits, and the view shows JSON without colour, number or time. If it fails,
-    /// the composed text may be only a part of the piece's text, so the caller clears it. If the view's filter hides
-    /// the message, its text is empty.
+    /// piece is a short message and its text fits, and only for a view with the style `Json` that shows neither a
+    /// colour, nor a number or a time before each message. If it fails, the composed text may be only a part of the
+    /// piece's text, so the caller clears it. If the view's filter hides the message, its text is empty.
     #[inline(always)]
     pub fn compose(&mut self, view: &View, number: u64, times: &Times, piece: &Sight<'_>) -> bool
         ensures shown { IsTrue result → take self.new.len self.new.bytes
@@ -400,7 +400,7 @@ impl Composed {
     }
 }
 
-/// Returns whether the view shows pieces without colour, number or time.
+/// Returns whether the view shows neither a colour, nor a number or a time before each message.
 fn is_bare(view: &View) -> bool
     ensures bare { IsTrue result
         → (view.now.color ≡ false) × (view.now.number ≡ false) × (view.now.stamp ≡ Untimed) }

@@ -61,6 +61,8 @@ pub fn run_send<S: LiveLines<W>, W: Write + Drop, E: Write>(
     // The loop has a greatest number of lines, because each function is proved to end.
     'by_line: for number in 1..usize::MAX {
         line.clear();
+        // The read doesn't need the output. It is an argument so that the clause `live` can say that the output held
+        // the frames of all earlier lines when this read began.
         let Ok(count) = input.read_line_beside(output, &mut line) else {
             return Err(WatchFault::ReadFailed);
         };
