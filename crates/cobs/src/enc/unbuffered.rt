@@ -13,7 +13,7 @@ ghost use Rattle.cobs.specs.Fields.Progress.{reached_by};
 /// From the first push to the end of the message, the caller must pass the same buffer to each call, and must not
 /// change the buffer between two calls. If the caller passes another buffer, of any length, or sets the three numbers
 /// to any values, each call is still safe: no call panics, and no call returns a length greater than the buffer's
-/// length. But in these cases the bytes of the buffer are unspecified.
+/// length. But the content of the buffer is then unspecified.
 ///
 /// ```
 /// let mut encoder = UnbufferedEncoder::new();
@@ -39,8 +39,8 @@ pub struct UnbufferedEncoder {
 }
 
 impl UnbufferedEncoder {
-    /// Makes an encoder for a new message. The buffer that you pass to the encoder needs at least one byte, because the
-    /// frame of the empty message has one byte.
+    /// Makes an encoder for a new message. The buffer that you pass to the encoder must have at least one byte, because
+    /// the frame of the empty message has one byte.
     ///
     /// ```
     /// let mut buffer = [170; 2];
