@@ -70,10 +70,10 @@ pub(crate) fn has_room(taken: u8, bytes: &[u8], room: usize) -> bool
     covers_overhead(len, spare) || fits_each(taken, bytes, spare)
 }
 
-/// Tests whether `source` can be appended to an open block of `taken` bytes. Returns `Some` if the frame then still fits
-/// the buffer, and otherwise `None`. `room` is the number of bytes from the open block's code to the end of the buffer.
-/// The `Some` contains the length of the first run of `source`, so that the encoder needn't search for the end of this
-/// run again. If the function didn't search for the end of the first run, the `Some` contains 0.
+/// Tests whether `source` can be appended to an open block of `taken` bytes. Returns `Some` if the frame then still
+/// fits the buffer, and otherwise `None`. `room` is the number of bytes from the open block's code to the end of the
+/// buffer. The `Some` contains the length of the first run of `source`, so that the encoder needn't search for the end
+/// of this run again. If the function didn't search for the end of the first run, the `Some` contains 0.
 ///
 /// The function counts all full blocks except a full block at the end of the frame. In each step, it looks at the bytes
 /// that would fill the open block. If there is a zero among these bytes, the block doesn't become full, and the

@@ -24,8 +24,8 @@ impl UnbufferedEncoder {
             → TakesFront dest.old (reached_by self.old) (byte ∷ behind) 1 dest.new (reached_by self.new) }
         ensures end { result ≡ end_of (reached_by self.new) }
     {
-        // `code` is the code of the open block before this byte. If the byte joins this block, the block then has `code`
-        // bytes after its code, so `taken` becomes `code`. If the byte ends the block, `taken` becomes 0.
+        // `code` is the code of the open block before this byte. If the byte joins this block, the block then has
+        // `code` bytes after its code, so `taken` becomes `code`. If the byte ends the block, `taken` becomes 0.
         let index = self.index;
         let mut code = self.taken as usize + 1;
         let next = index + code;
