@@ -1,8 +1,7 @@
 //! The laws of messages, frames, pieces and streams. Each law is a function whose contract states the law. The function
 //! does nothing when it runs. If a function calls a law, the function's proof can use the law. The example of each law
-//! is a function that calls the law. Some examples call `reads_as`, a function that CALLING.md shows. If an example
-//! needs a proof, the proof follows the example. It is the caller's `Answers.antt`, without the line `use
-//! Rattle.CRATE.proofs.CALLER.Goals as goal`.
+//! is such a function. Some examples call `reads_as`, which CALLING.md shows. If an example needs a proof, the proof
+//! follows: it is the caller's `Answers.antt` without the line `use Rattle.CRATE.proofs.CALLER.Goals as goal`.
 //!
 //! ```
 //! fn encode_by_longest(source: &[u8], dest: &mut [u8]) -> usize

@@ -116,8 +116,8 @@ impl UnbufferedEncoder {
         let room = dest.len();
         let code = self.taken as usize + 1;
         // An open block has a code of at most 254; the code is greater only if the caller has changed the encoder's
-        // numbers. The tests read the field `index` itself, not a copy of it, so that rustc sees that every index in
-        // `append_byte` is within bounds.
+        // numbers. The tests read the field `index` itself, not a copy of it, so that rustc sees that no index of the
+        // step is out of bounds.
         if FULL_BLOCK_BYTES < code || room < self.index || room - self.index <= code {
             return Err(DestBufTooSmallError);
         }
