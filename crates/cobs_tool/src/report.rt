@@ -42,8 +42,8 @@ pub fn report_of(alloc: Global, stream: &[u8]) -> Result<String, AllocError>
                 }
                 return Ok(text);
             }
-            // A read of bytes in memory never fails, and a stream of at most 1 MiB, 64 bytes per read, never needs the
-            // 65,536 reads of one call.
+            // A read of bytes in memory never fails. Each read returns 64 bytes, or all remaining bytes. So a stream of
+            // at most 1 MiB never needs as many as 65,536 reads in one call.
             Err(_) => unreachable!(),
         }
     }
