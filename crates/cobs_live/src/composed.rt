@@ -211,7 +211,8 @@ impl Composed {
         self.append(b"\n");
     }
 
-    /// Adds a message as a JSON object on a line. The object has no time, so the clause `put` is true for all `times`.
+    /// Adds a message as a JSON object on its own line. The object has no time, so the clause `put` is true for all
+    /// `times`.
     fn put_json(&mut self, number: u64, piece: &Sight<'_>) -> Result<(), Full>
         requires message { piece.now.kind ≡ Message }
         ensures put { (times : Times) → OnOk result (Appends (contents_of self.old) (contents_of self.new)

@@ -60,8 +60,8 @@ pub struct Filter {
     /// Whether `unfinished` and `hung up` are shown.
     pub unfinished: bool,
 
-    /// The least and the greatest number of decoded bytes of a piece that is shown. A piece that is too long counts as
-    /// `usize::MAX` bytes.
+    /// `min` and `max` are the least and the greatest number of decoded bytes that a shown piece may have. A piece that
+    /// is too long counts as `usize::MAX` bytes.
     pub min: usize,
     pub max: usize,
 

@@ -115,7 +115,7 @@ pub(crate) fn append_few(
     encoder_at(index, next, 0)
 }
 
-/// Encodes all bytes of `source`. There are at most 32 bytes, and they can't fill the open block. The function has few
+/// Encodes all bytes of `source`. These are at most 32 bytes, and they can't fill the open block. The function has few
 /// branches that a processor could mispredict: it calls `mark_first` twice before a branch depends on the number of
 /// zeros. If `test_for_none` is true, a branch first tests whether `source` has a zero. `push` passes true, because
 /// this test makes a push of bytes without zeros faster.

@@ -1,4 +1,4 @@
-//! Tests whether a frame fits the buffer before any byte of the frame is written, and encodes only if it fits.
+//! Encodes only if the frame fits the buffer. This is tested before any byte of the frame is written.
 ghost use Rattle.std.specs.Prelude.{◌≡◌, ◌<◌, ◌≤◌, ◌+◌, ◌^◌, ◌↔◌, IfSome, IsSome, IsTrue, false, length};
 ghost use Rattle.cobs.specs.Length.{max_encoded_len, open_len};
 ghost use Rattle.cobs.specs.OpenBlock.{IsPlaceIn, end_after};

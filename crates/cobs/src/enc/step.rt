@@ -1,4 +1,4 @@
-//! The encoder, byte by byte: the step for one byte of the message, and a loop over the bytes of a push.
+//! Encodes byte by byte: the step for one byte of the message, and a loop over the bytes of a push.
 ghost use Rattle.std.specs.Prelude.{◌≡◌, ◌<◌, ◌≤◌, ◌+◌, ◌++◌, ◌↔◌, [], ◌∷◌, ℕ, List, length, drop, IsOk, IsTrue, IfOk, OnOk, OnErr, false};
 ghost use Rattle.cobs.specs.Length.{encoded_len};
 ghost use Rattle.cobs.specs.OpenBlock.{CobsEncoderAfter, HasRoomFor, IsFewFor, IsPlaceIn, end_after, end_of};

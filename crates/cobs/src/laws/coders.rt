@@ -47,10 +47,10 @@ pub fn law_15()
 
 /// An encoder of your own, byte by byte.
 ///
-/// The encoder writes to a slice. At first the message so far is empty. The encoder appends a nonzero byte to the open
-/// block. A zero ends the open block, and the 254th nonzero byte of a block fills the block. In both cases, the encoder
-/// writes the block's code. At the end of the message, the encoder writes the code of the open block, unless the last
-/// block is full.
+/// The encoder writes to a slice. At first, it has taken no byte of the message. The encoder appends a nonzero byte to
+/// the open block. A zero ends the open block, and the 254th nonzero byte of a block fills the block. In both cases,
+/// the encoder writes the block's code. At the end of the message, the encoder writes the code of the open block,
+/// unless the last block is full.
 ///
 /// Suppose that the encoder has taken some bytes of the message, perhaps none, and that at least one more byte is to
 /// come. Then the length of the encoded frame of the whole message is the sum of two numbers. The first number is the
