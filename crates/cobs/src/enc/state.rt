@@ -6,8 +6,8 @@ ghost use Rattle.cobs.specs.OpenBlock.{EncoderAfter, IsOpenOutput, push_result, 
 use std::alloc::AllocError;
 use std::marker::Model;
 
-/// The change that a byte of the message makes to the encoded output. Each index is an offset in bytes from the start
-/// of the output. The variants have the same names as in the Rust crate `cobs`.
+/// The change that a byte of the message makes to the encoded output. Indices count bytes from the start of the output.
+/// The variants have the same names as in the Rust crate `cobs`.
 ///
 /// ```
 /// let mut state = EncoderState::default();
@@ -137,8 +137,8 @@ impl EncoderState {
 
     /// Encodes the next byte of the message, and returns the change that this byte makes to the output.
     ///
-    /// Precondition: [`can_push`](EncoderState::can_push) returns true. The index in the result is an offset in bytes
-    /// from the start of the output.
+    /// Precondition: [`can_push`](EncoderState::can_push) returns true. Indices count bytes from the start of the
+    /// output.
     ///
     /// ```
     /// let mut state = EncoderState::default();
