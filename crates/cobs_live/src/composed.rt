@@ -26,8 +26,8 @@ use std::str;
 /// The length in bytes of the longest message whose text is composed.
 const SHORT_LEN: usize = 256;
 
-/// The greatest length in bytes of a line without the digits of its message: the word `message` and a space, a number
-/// of up to 40 digits, a space and a newline.
+/// The greatest length in bytes of a line without the digits of its message: the word `message`, a space, a number of
+/// up to 40 digits, a space and a newline.
 const LINE: usize = 50;
 
 /// The greatest length in bytes of a composed text.
@@ -44,7 +44,7 @@ pub struct Composed {
     /// The text is the first `len` bytes.
     bytes: [u8; ROOM],
 
-    /// At most `ROOM`. No invariant states this, so the functions below test it.
+    /// The length of the text, at most `ROOM`. No invariant states this limit, so the functions below test it.
     len: usize,
 }
 
@@ -176,10 +176,10 @@ impl Composed {
         self.put_message(view.style, number, piece).is_ok()
     }
 
-    /// Adds a message with this number, without colour and time, if the style is `Json`. For other styles, `put_message`
-    /// returns `Full`, and the caller writes the text directly. The text has no time, so the clause `put` is true for all
-    /// `times`. [`compose`](Composed::compose) has already tested the style. The style is matched again, because the
-    /// clause `put` is stated for every style.
+    /// Adds a message with this number, but without colour or time, if the style is `Json`. For other styles,
+    /// `put_message` returns `Full`, and the caller writes the text directly. The text has no time, so the clause `put`
+    /// is true for all `times`. [`compose`](Composed::compose) has already tested the style. The style is matched
+    /// again, because the clause `put` is stated for every style.
     #[inline(always)]
     fn put_message(&mut self, style: Style, number: u64, piece: &Sight<'_>) -> Result<(), Full>
         requires message { piece.now.kind ≡ Message }
@@ -211,7 +211,8 @@ impl Composed {
         self.append(b"\n");
     }
 
-    /// Adds a message as a JSON object on a line. The object has no time, so the clause `put` is true for all `times`.
+    /// Adds a message as a JSON object on its own line. The object has no time, so the clause `put` is true for all
+    /// `times`.
     fn put_json(&mut self, number: u64, piece: &Sight<'_>) -> Result<(), Full>
         requires message { piece.now.kind ≡ Message }
         ensures put { (times : Times) → OnOk result (Appends (contents_of self.old) (contents_of self.new)
@@ -300,7 +301,7 @@ impl Composed {
         if code < 65_536 {
             return self.put_unit(code as u16);
         }
-        // As in `write_escape` of `escape.rt`.
+        // The surrogates are computed as in `write_escape` of `escape.rt`.
         self.put_unit((0xD800 + (code - 65_536) / 1024 % 1024) as u16)?;
         self.put_unit((0xDC00 + code % 1024) as u16)
     }

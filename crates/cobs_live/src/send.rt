@@ -35,9 +35,10 @@ pub struct Settings {
 /// message in the frame.
 ///
 /// Returns whether every line was sent. If `settings.hex` is set, a line that isn't hexadecimal digits is skipped, and
-/// its number, counted from 1, is reported on `errors`. An interrupted read is tried again. At any time, memory is
-/// allocated for only one line, its message and its frame.
+/// its number, counted from 1, is reported on `errors`. An interrupted read is tried again. Memory is never allocated
+/// for more than one line, its message and its frame at a time.
 ///
+/// # Errors
 /// - `ReadFailed`: a read failed, or memory ran out while a line was read. All earlier lines were sent.
 /// - `WriteFailed`: a write or a flush failed. Part of a frame may have been written.
 /// - `OutputClosed`: a write or a flush failed because nobody reads the output any more.
@@ -136,7 +137,8 @@ fn digits_of(alloc: Global, text: &[u8]) -> Result<Vec<u8>, AllocError>
     Ok(digits)
 }
 
-/// Returns whether a byte of a line should be a digit: it isn't a space, a tab or a carriage return.
+/// Returns whether a byte of a line should be a digit. Every byte should be one, except spaces, tabs and carriage
+/// returns.
 fn is_digit(byte: u8) -> bool
     ensures digit { result ≡ is_digit byte }
 {

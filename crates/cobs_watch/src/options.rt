@@ -142,8 +142,8 @@ fn with_styles<'a>(alloc: Global, command: Command<'a>) -> Result<Command<'a>, E
     Ok(command.arg(bytes)?.arg(bare_style(alloc, "pcap")?)?)
 }
 
-/// Adds the options for the number, the time and the colour of a piece, and for the decoded bytes of broken and too
-/// long pieces, to the command. The texts of `help.rt` name the possible values, so clap doesn't list them again.
+/// Adds to the command the options for the number, the time and the colour of a piece, and for the decoded bytes of
+/// broken and too long pieces. The texts of `help.rt` name the possible values, so clap doesn't list them again.
 fn with_columns<'a>(alloc: Global, command: Command<'a>) -> Result<Command<'a>, Error> {
     let time = option(alloc, "time", "CLOCK")
         .short('t')
@@ -273,7 +273,7 @@ fn show_task<'a>(
                 checksum: checksum_of(alloc, matches)?,
                 partial: matches.get_flag("partial"),
             },
-            // `number_of` already limits the length, but no clause of it says so.
+            // `number_of` already limits the length, but none of its clauses says so.
             length: length.min(MAX_LENGTH) as usize,
             sentinel: sentinel_of(alloc, matches)?,
             skip_first: matches.get_flag("skip-first"),
