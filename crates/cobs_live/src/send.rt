@@ -39,10 +39,11 @@ pub struct Settings {
 /// for more than one line, its message and its frame at a time.
 ///
 /// # Errors
-/// - `ReadFailed`: a read failed, or memory ran out while a line was read. All earlier lines were sent.
+/// - `ReadFailed`: a read failed, or memory ran out while a line was read. All earlier lines were sent or skipped.
 /// - `WriteFailed`: a write or a flush failed. Part of a frame may have been written.
 /// - `OutputClosed`: a write or a flush failed because nobody reads the output any more.
-/// - `OutOfMemory`: memory ran out while the message or the frame of a line was made. All earlier lines were sent.
+/// - `OutOfMemory`: memory ran out while the message or the frame of a line was made. All earlier lines were sent or
+///   skipped.
 pub fn run_send<S: LiveLines<W>, W: Write + Drop, E: Write>(
     alloc: Global,
     settings: &Settings,
@@ -76,6 +77,7 @@ pub fn run_send<S: LiveLines<W>, W: Write + Drop, E: Write>(
             let _ = writeln!(errors, "cobs_watch: line {number}: not hexadecimal digits");
         }
     }
+    // After the greatest number of lines, the call ends as if a read had failed. No input has so many lines.
     Err(WatchFault::ReadFailed)
 }
 

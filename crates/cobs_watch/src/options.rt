@@ -40,7 +40,7 @@ pub(crate) struct ShowTask<'a> {
     /// Whether dates are in the system's time zone.
     pub(crate) local: bool,
 
-    /// The path of the file that is shown; `None` for standard input.
+    /// The path of the file that is shown. Standard input has no path (`None`) or the path `-`.
     pub(crate) path: Option<&'a str>,
 
     /// Whether the file is opened again after a hang-up.
@@ -128,8 +128,8 @@ fn with_show_options<'a>(alloc: Global, command: Command<'a>) -> Result<Command<
     Ok(with_line(alloc, command)?.after_help(help::SHOW_EXAMPLES))
 }
 
-/// Adds the options for styles to the command. `json` excludes `number`, because each JSON object has the number of its
-/// piece.
+/// Adds the options for styles to the command. `json` excludes `number`, because the JSON object of each piece that has
+/// ended has the number of this piece.
 fn with_styles<'a>(alloc: Global, command: Command<'a>) -> Result<Command<'a>, Error> {
     let hexdump = style(alloc, "hexdump")?.short('x');
     let json = style(alloc, "json")?.short('j').conflicts_with("number")?;

@@ -14,15 +14,15 @@ use crate::enc::UnbufferedEncoder;
 use crate::find::position_or_len;
 use cobs_bytes::window::{WINDOW, copy_at, copy_window, has_vectors, write_row, zeros_at};
 
-/// If there are fewer bytes than this number, they are encoded one by one. In the Rust crate `jcobs`, this is faster
-/// than copying a window. `push_few` accepts at most this number of bytes.
+/// If `append_short` gets fewer bytes than this number, it encodes them one by one. In the Rust crate `jcobs`, this is
+/// faster than copying a window. `push_few` encodes one by one too, and accepts up to this number of bytes.
 pub(crate) const APPEND_EACH_BELOW: usize = 8;
 
 /// The mask of a window that has only zeros.
 const ALL_ZEROS: u64 = 0xffff_ffff;
 
 /// Returns the state of an encoder whose open block begins at index `index`, and which writes the next byte at index
-/// `next`.
+/// `next`. `full` is 1 if the frame so far ends with a full block, and otherwise 0.
 #[inline(always)]
 fn encoder_at(index: usize, next: usize, full: u8) -> UnbufferedEncoder
     requires ordered { index < next }
@@ -67,7 +67,8 @@ fn mark_first(dest: &mut [u8], index: usize, next: usize, zeros: u64) -> (usize,
 }
 
 /// Closes a block at each zero that the mask marks, and writes the code of each of these blocks. Each iteration of the
-/// loop writes up to two codes, because a window may have many zeros. Returns the index of the next code.
+/// loop writes up to two codes, so that a window with many zeros needs fewer iterations. Returns the index of the next
+/// code.
 #[inline(always)]
 fn mark_zeros(dest: &mut [u8], index: usize, next: usize, zeros: u64) -> usize
     requires { IsMask next zeros index dest.old }
@@ -231,7 +232,7 @@ fn append_windows(
                 continue;
             }
         }
-        // The bytes before the window's first zero fill the open block.
+        // The bytes before the window's first zero, or all its bytes if it has no zero, fill the open block.
         dest[index] = FULL_CODE as u8;
         let end = index + FULL_CODE;
         return (read + (end - next), encoder_at(end, end + 1, 1));
@@ -239,9 +240,9 @@ fn append_windows(
     (read, encoder_at(index, next, 0))
 }
 
-/// Encodes the first run of `source`, and the zero after the run if there is one. The run has `run` bytes. The bytes of
-/// each block, at most 254, are copied as one slice. Returns how many bytes it encoded, and the encoder's state after
-/// these bytes.
+/// Encodes the first run of `source`, and the zero after the run if there is one. The run has `run` bytes; the caller
+/// passes this number because it may have found the end of the run already. The bytes of each block, at most 254, are
+/// copied as one slice. Returns how many bytes it encoded, and the encoder's state after these bytes.
 #[inline(always)]
 #[tactic(auto, using(crate::proofs::encoding::TakingLemmas::next_steps))]
 fn append_long_run(
