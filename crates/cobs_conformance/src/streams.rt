@@ -103,8 +103,8 @@ impl Streaming for ByBytes {
 }
 
 /// Runs each of the three streaming decoders with the same buffer and input: with `push`, with single bytes, and with
-/// `feed_piece`. Runs a [`ByBytes`] too, with `feed_piece`. Returns the words of the first run. If the result of another
-/// run differs from the expected one, more words are added to these, so that the case fails.
+/// `feed_piece`. Runs a [`ByBytes`] too, with `feed_piece`. Returns the words of the first run. If the result of
+/// another run differs from the expected one, more words are added to these, so that the case fails.
 ///
 /// # Errors
 /// `Malformed` if an argument can't be parsed, or if [`heapless`] has no decoder whose buffer has the length of the

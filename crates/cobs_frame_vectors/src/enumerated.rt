@@ -131,8 +131,8 @@ fn check_kind(rt: &impl Abort, alloc: Global, source: &[u8]) -> Result<(), Fail>
     Ok(())
 }
 
-/// Checks `decode_in_place_report`, `frame_kind`, `decode` and `decode_with_sentinel` with this list as their input. The
-/// last two are checked with buffers of each of these lengths.
+/// Checks `decode_in_place_report`, `frame_kind`, `decode` and `decode_with_sentinel` with this list as their input.
+/// The last two are checked with buffers of each of these lengths.
 fn check_list(rt: &impl Abort, alloc: Global, list: &[u8], rooms: &[usize]) -> Result<(), Fail> {
     check_in_place(rt, alloc, list)?;
     check_kind(rt, alloc, list)?;

@@ -58,8 +58,8 @@ append_through (Some x) None b t w p q = absurd p
 append_through (Some x) (Some y) None t w p q = absurd q
 append_through (Some x) (Some y) (Some z) t w p q = q ∙ p
 
--- If the bytes are shown in the contents a with the composed text t appended, and b are the contents after t was written
--- to a, then the bytes are shown in b.
+-- If the bytes are shown in the contents a with the composed text t appended, and b are the contents after t was
+-- written to a, then the bytes are shown in b.
 pub ShowsBytes-through : {view : View} {times : ℕ → Moment} {n : ℕ} {p bytes : List ℕ} {gone : List Outcome} {read : ℕ} {buffer : List ℕ} {phase : Phase} {before : Option (List ℕ)} {tally : Tally} {clock : Times} (a b : Option (List ℕ)) (t : List ℕ)
     → ShowsBytes view times n p bytes gone read buffer phase before (append_known a t) tally clock → Appends a b t → ShowsBytes view times n p bytes gone read buffer phase before b tally clock
 ShowsBytes-through {before = before} a b t s q = grind (arith, append_through)

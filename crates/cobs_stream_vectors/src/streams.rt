@@ -128,7 +128,8 @@ fn push_all<D: StreamingDecoder>(
                 outcomes.push(FrameOutcome::Broken(count))?;
             }
             CallResult::TooSmall if is_ended => outcomes.push(FrameOutcome::TooLong)?,
-            // The piece is too long, but it hasn't ended. Its zero reports this again, and then the outcome is appended.
+            // The piece is too long, but it hasn't ended. Its zero reports this again, and then the outcome is
+            // appended.
             CallResult::TooSmall => {}
         }
     }
@@ -136,8 +137,8 @@ fn push_all<D: StreamingDecoder>(
 }
 
 /// A case whose stream is decoded in chunks. It is cut at each pair of places, for three calls of `decode_stream`, some
-/// of which may get no bytes, and at each place, for two rounds of pushes. The stream ends with a zero, so the decoder is
-/// idle after each round.
+/// of which may get no bytes, and at each place, for two rounds of pushes. The stream ends with a zero, so the decoder
+/// is idle after each round.
 #[derive(Drop)]
 struct Cuts {
     case: Case,

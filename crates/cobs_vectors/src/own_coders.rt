@@ -158,7 +158,8 @@ pub fn feed_each(
     None
 }
 
-/// Takes a byte of a piece. Returns whether the message so far, which is then at the front of the buffer, is `expected`.
+/// Takes a byte of a piece. Returns whether the message so far, which is then at the front of the buffer, is
+/// `expected`.
 pub fn take_and_compare(
     decoder: &mut UnbufferedDecoder,
     buffer: &mut [u8],

@@ -87,8 +87,8 @@ module _ {slice m : List ℕ} {r : Reached} (h : CobsEncoderAfter slice r m) (ro
 
 -- ROOM FOR A BYTE, GIVEN THE ENCODER'S PLAIN NUMBERS
 
--- an encoder in a slice of n bytes can have these numbers if its open block isn't full and the index of the next byte is
--- within the slice
+-- an encoder in a slice of n bytes can have these numbers if its open block isn't full and the index of the next byte
+-- is within the slice
 pub is-place : (e : UnbufferedEncoder) (n : ℕ) → e.taken ≤ 253 → e.index + e.taken + 1 < n → IsPlaceIn n (reached_by e)
 is-place e n short room = grind arith
 

@@ -19,8 +19,8 @@ index_of (ModifyFromStartAndPushAndSkip (i, c, b)) = i
 index_of-push_result : (state : OpenBlock) (byte : ℕ) → index_of (push_result state byte) ≤ state.index
 index_of-push_result state byte = go (byte == 0) (state.code == 254)
   where
-    -- the three results of `push_result`, for whether the byte is a zero, and whether a nonzero byte would fill the open
-    -- block
+    -- the three results of `push_result`, for whether the byte is a zero, and whether a nonzero byte would fill the
+    -- open block
     go : (zero full : Bool) → index_of (if zero then ModifyFromStartAndSkip (state.index, state.code) else (if full then ModifyFromStartAndPushAndSkip (state.index, 255, byte) else AddSingle byte)) ≤ state.index
     go true full = omega arith
     go false true = omega arith

@@ -89,8 +89,8 @@ returns c =
     let at = (goal.at.returns c).After-take_in_place in
     let n : ℕ = c.kept_len-len.result.0 in
     let e = c.kept_len-len.ensures in
-    -- the buffer has at least n bytes from `tail` on (`few`), so the second call gets the first n of them (`take-take` in
-    -- `next`)
+    -- the buffer has at least n bytes from `tail` on (`few`), so the second call gets the first n of them (`take-take`
+    -- in `next`)
     let few : n ≤ c.args.end - tail at = omega (arith, e.within, bytes-long at) in
     -- after the first `tail` bytes of h, the decoder's number `missing` is the number of missing bytes of the open
     -- block; `kept` and `whole` of `kept_len` need this
