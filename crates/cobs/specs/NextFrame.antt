@@ -80,9 +80,9 @@ pub record ReaderState : Type 0 where
 abbrev pub ReaderAfter : ReaderState → List ℕ → Type 0
 ReaderAfter reader p = DecoderAfter reader.buffer reader.phase p
 
--- the output of this piece is in the buffer. If the piece is broken, the buffer begins with the output. If the output
--- is too long, the buffer is filled with the first bytes of the output. If the piece is a message, nothing is stated
--- here, because the bytes of the message are part of the outcome.
+-- what the buffer contains of the output of this piece. If the piece is broken, the buffer begins with the output. If
+-- the output is too long, the buffer is filled with the first bytes of the output. If the piece is a message, nothing
+-- is stated here, because the bytes of the message are part of the outcome.
 abbrev pub HasDecoded : Outcome → List ℕ → List ℕ → Type 0
 HasDecoded (Message message) buffer piece = Unit {0}
 HasDecoded (Broken count) buffer piece = (count ≤ length buffer) × (take count buffer ≡ output piece)
@@ -129,6 +129,6 @@ pub record ReadsNext {S : Type 0} (step : S → Read → S → Type 0) (source s
   pub runs : Runs step source reads source'
   pub failed : (result ≡ Err faults.Io) ↔ EndsIn reads None
   -- if the front p of a piece had been fed to the decoder, the stream consists of p, the kept bytes, and the bytes that
-  -- the reads returned. So nothing is read if a piece ends in the kept bytes.
+  -- the reads returned. No read is made if a piece ends in the kept bytes (`CallsForMore`).
   pub called_for : (p : List ℕ) → ReaderAfter reader p → EachCalledFor (p ++ reader.kept) (length reader.buffer) reads
   pub result_says : (p : List ℕ) → ReaderAfter reader p → Reports result reads (p ++ reader.kept ++ all_given reads) reader'

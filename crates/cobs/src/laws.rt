@@ -1,7 +1,7 @@
 //! The laws of messages, frames, pieces and streams. Each law is a function whose contract states the law. The function
 //! does nothing when it runs. If a function calls a law, the function's proof can use the law. The example of each law
-//! is such a caller. Some examples call `reads_as`, the function that CALLING.md shows. If an example needs a proof,
-//! the proof follows it: the caller's `Answers.antt` without the line `use Rattle.CRATE.proofs.CALLER.Goals as goal`.
+//! is such a function. Some examples call `reads_as`, which CALLING.md shows. If an example needs a proof, the proof
+//! follows: it is the caller's `Answers.antt` without the line `use Rattle.CRATE.proofs.CALLER.Goals as goal`.
 //!
 //! ```
 //! fn encode_by_longest(source: &[u8], dest: &mut [u8]) -> usize
@@ -30,10 +30,10 @@ pub use coders::{law_15, law_16, law_17, law_18, law_19, law_20, law_21};
 
 /// A frame reads as its output.
 ///
-/// The output of some bytes is the message that their blocks stand for, even if the last block isn't complete. The
-/// bytes read as this message, and as no other, if three conditions hold: there is at least one byte, no byte is a
+/// The output of bytes is the message that their blocks stand for, even if the last block isn't complete. The bytes
+/// read as their output, and as no other message, if three conditions hold: there is at least one byte, no byte is a
 /// zero, and the last block is complete. Otherwise the bytes read as no message. The output is never longer than the
-/// bytes, and doesn't get shorter if another byte is appended to them.
+/// bytes. If another byte is appended to the bytes, their output doesn't get shorter.
 ///
 /// So a decoder that only checks whether the last block is complete accepts every frame, and rejects every other piece.
 ///
@@ -57,10 +57,10 @@ pub fn law_1()
 
 /// Each message has one encoded frame.
 ///
-/// Each message has exactly one encoded frame. All encoders that write this frame write the same bytes. A program can
-/// compare encoded frames instead of messages, for example to find a message in a store or to check a signature. An
-/// encoded frame's length (`encoded_len`) decides whether `try_encode` and `CobsEncoder` accept the message. In the
-/// clauses, messages and frames are lists of numbers. If a message's numbers are below 256, so are its frame's.
+/// A message has only one encoded frame, so all encoders that write it write the same bytes. A program can compare
+/// encoded frames instead of messages, for example to find a message in a store or to check a signature. The frame's
+/// length (`encoded_len`) decides whether `try_encode` and `CobsEncoder` accept the message. In the clauses, messages
+/// and frames are lists of numbers. If all numbers of a message are below 256, so are those of its frame.
 ///
 /// ```
 /// fn encode_again(message: &[u8], frame: &[u8], dest: &mut [u8]) -> usize
@@ -87,10 +87,10 @@ pub fn law_2()
 
 /// All frames of a message.
 ///
-/// One frame of a message is its encoded frame. There is a second frame only if the message ends in a full run, that is, a run
-/// of nonzero bytes whose length is a positive multiple of 254. The second frame is one byte longer: it is the encoded frame
-/// followed by 01. A protocol may allow only one frame for each message, for example because its receivers compare frames. A
-/// receiver then rejects the longer frame, which it recognizes with [`frame_kind`](crate::frame_kind).
+/// Each message has an encoded frame. It has a second frame only if it ends in a full run, that is, in a run of nonzero
+/// bytes whose length is a positive multiple of 254. The second frame is the encoded frame followed by the byte `1`. A
+/// protocol may allow only one frame for each message, for example because its receivers compare frames. The receivers
+/// then use [`frame_kind`](crate::frame_kind) to recognize the longer frame, and reject it.
 ///
 /// ```
 /// fn is_frame_for(piece: &[u8], message: &[u8], buffer: &mut [u8]) -> bool
@@ -109,10 +109,9 @@ pub fn law_3()
 
 /// The length of a frame, and its bound.
 ///
-/// An encoded frame is longer than its message, and has at most as many bytes as
-/// [`max_encoding_length`](crate::max_encoding_length) returns for the message's length. The frame of a message without zeros
-/// is as long as this bound, so for every length of a message some frame reaches the bound. If bytes are appended to a message,
-/// its frame doesn't get shorter.
+/// An encoded frame is longer than its message. For a message of n bytes, it has at most
+/// [`max_encoding_length(n)`](crate::max_encoding_length) bytes. If the message has no zeros, its frame is exactly this
+/// long, so for every n some frame reaches the bound. Appending bytes to a message never shortens its frame.
 ///
 /// ```
 /// fn encode_nonzero(source: &[u8], dest: &mut [u8]) -> usize
@@ -135,8 +134,8 @@ pub fn law_4()
 
 /// Equal frames, equal messages.
 ///
-/// Messages with equal encoded frames are equal, and a frame reads as only one message. So a frame keeps all information of its
-/// message, and no receiver reads another message from it.
+/// If the encoded frames of two messages are equal, the messages are equal. A frame reads as only one message. So a
+/// frame keeps all information in its message, and no receiver reads a different message from the frame.
 ///
 /// ```
 /// fn are_equal(alloc: Global, first: &[u8], second: &[u8]) -> Result<bool, AllocError>
@@ -155,12 +154,12 @@ pub fn law_5()
 
 /// No frame contains its sentinel; a second XOR restores the frame.
 ///
-/// If each byte of a frame for the sentinel 0 is XORed with another byte `s`, the result is a frame for the sentinel `s`. The
-/// frame for `s` doesn't contain `s`, and a second XOR with `s` restores the frame for 0.
+/// If each byte of a frame with the sentinel 0 is XORed with a byte `s`, the result is a frame with the sentinel `s`.
+/// The frame with the sentinel `s` doesn't contain `s`, and a second XOR with `s` restores the original frame.
 ///
-/// A frame must not contain its sentinel, so that a receiver can find the end of a frame by searching for the sentinel.
-/// The clause `free` states this for a sent frame, and `received` for received bytes that are a frame after the XOR.
-/// Bytes that don't contain `s` contain no zero after the XOR (`coded`), and an XOR with 0 changes nothing (`zero`).
+/// A receiver finds the end of a frame by searching for the sentinel, so a frame must not contain its sentinel. The
+/// clause `free` states this for a sent frame, and `received` for received bytes that the XOR turns into a frame. If
+/// bytes don't contain `s`, they contain no zero after the XOR (`coded`). An XOR with 0 changes nothing (`zero`).
 ///
 /// ```
 /// fn as_received<'a>(frame: &'a [u8], sentinel: u8) -> &'a [u8]
@@ -185,11 +184,11 @@ pub fn law_6()
 
 /// The fronts of a frame.
 ///
-/// A front of a frame consists of any number of its first bytes. A front that isn't empty is a frame exactly if it ends at the
-/// end of a block. The message of such a front is a front of the frame's message.
+/// A front of a frame consists of any number of its first bytes. A front that isn't empty is a frame if and only if it
+/// ends where a block ends. The message of such a front is a front of the frame's message.
 ///
-/// So if a frame is cut inside a block, for example because a connection is lost, a receiver notices it. If a frame is cut
-/// between two blocks, a receiver doesn't notice it, and reads the beginning of the message that was sent.
+/// So if a frame is cut inside a block, for example because a connection is lost, a receiver notices the cut. If a
+/// frame is cut between two blocks, a receiver doesn't notice the cut, and reads the beginning of the message.
 ///
 /// ```
 /// fn is_begun(received: &[u8], message: &[u8], buffer: &mut [u8]) -> bool
@@ -214,11 +213,11 @@ pub fn law_7()
 
 /// Frames joined without a sentinel.
 ///
-/// Two frames without a sentinel between them are one frame. Its message is the message of the first frame, then a zero unless
-/// the first frame ends in a full block, and then the message of the second frame.
+/// Two frames without a sentinel between them are one frame. The message of this frame consists of the first frame's
+/// message, a zero unless the first frame ends in a full block, and the second frame's message.
 ///
-/// So if the sentinel between two frames is lost, a receiver reads one message, and can't know that two messages were sent. To
-/// notice a lost sentinel, put a checksum of your own into each message.
+/// So if the sentinel between two frames is lost, a receiver reads one message, and can't know that two messages were
+/// sent. To notice a lost sentinel, put a checksum of your own into each message.
 ///
 /// ```
 /// fn join(alloc: Global, first: &[u8], second: &[u8]) -> Result<Vec<u8>, AllocError>
@@ -247,14 +246,14 @@ pub fn law_8()
 
 /// A stream may be cut anywhere.
 ///
-/// The unended bytes of a stream are the bytes after its last zero. Cut a stream into two chunks, and put the unended
-/// bytes of the first chunk before the second. Then the outcomes of the whole stream are those of the first chunk,
-/// followed by those of the extended second chunk. The same is true for the pieces that a zero ends. The whole stream
-/// has the unended bytes of the extended second chunk. A stream that ends in a zero has no unended bytes. A stream
-/// without zeros has no outcome, and only unended bytes. One or more nonzero bytes that a zero ends are one piece.
+/// The unended bytes of a stream are the bytes after its last zero. Cut a stream into two chunks x and y. Put the
+/// unended bytes of x before y, and call the result z. Then the outcomes of the stream are the outcomes of x, followed
+/// by the outcomes of z. The pieces of the stream that a zero ends are those of x, followed by those of z. The unended
+/// bytes of the stream are those of z. A stream that ends in a zero has no unended bytes. In a stream without zeros,
+/// all bytes are unended, and there is no outcome. One or more nonzero bytes that a zero ends are one piece.
 ///
 /// So a receiver may decode a stream in chunks of any length, as reads return them. The outcomes of all chunks, in
-/// order, are the outcomes of one call for the whole stream. `decode_stream`, `push` and `FrameReader` use this law.
+/// order, are those that one call for the stream returns. `decode_stream`, `push` and `FrameReader` use this law.
 ///
 /// ```
 /// fn decode_in_two<D: FrameDecoder>(
@@ -289,11 +288,12 @@ pub fn law_9()
 
 /// Damage stays between its sentinels.
 ///
-/// If bytes between two sentinels are changed, lost or added, the pieces before the first sentinel and after the second
-/// sentinel keep their outcomes, even if the damage adds sentinels. If there are bytes between the two sentinels, but
-/// no sentinel, these bytes are one piece, with one outcome. If the two are adjacent, there is no piece between them.
+/// If bytes between two sentinels are changed, lost or added, the pieces before the first and after the second sentinel
+/// keep their outcomes, even if the damage adds sentinels. If there are bytes between the sentinels, but no other
+/// sentinel, these bytes are one piece with one outcome. If the two sentinels are adjacent, there is no piece between
+/// them.
 ///
-/// So a receiver on a noisy line, or a reader of a damaged file of records, loses only the messages that the damage touches.
+/// So on a noisy line, or in a damaged file of records, only the messages that the damage touches are lost.
 ///
 /// ```
 /// fn one_outcome<D: FrameDecoder>(
@@ -322,9 +322,9 @@ pub fn law_10()
 
 /// A frame in a stream is decoded as its message.
 ///
-/// A frame is decoded as its message in each buffer that has room for the message. So if messages were sent as frames, with a
-/// sentinel after each frame, a decoder with room for each message returns exactly these messages. The decoder reports no frame
-/// as broken or too long, not even the longer frame of a message that has two frames.
+/// A frame is decoded as its message in each buffer that has room for the message. So if messages were sent as frames,
+/// with a sentinel after each frame, a decoder whose buffer has room for each message returns exactly these messages.
+/// The decoder reports no frame as broken or too long, not even the longer frame of a message that has two frames.
 ///
 /// ```
 /// fn encode_for_stream(message: &[u8], dest: &mut [u8]) -> usize
@@ -349,14 +349,14 @@ pub fn law_11()
 /// The first and the last piece of a stream.
 ///
 /// If a stream begins with a nonzero byte, its first piece consists of the bytes before the first zero. In a buffer as
-/// long as the stream, the outcome of the first piece is the message m exactly if the piece reads as m. Zeros before
-/// the first piece are skipped: the piece begins after these zeros, and ends at the next zero or at the end of the
-/// stream. A stream that is empty, or that has only zeros, has no piece. A search finds the bytes before the first zero
-/// (`head`) if it stops at this zero or, in a stream without zeros, at the end. The same is true for any other sentinel
-/// (`head_for`). As long as no piece has ended, the unended bytes are the last piece, and the next zero ends it.
+/// long as the stream, the outcome of the first piece is the message m if and only if the piece reads as m. Zeros
+/// before the first piece are skipped: the piece begins after these zeros, and ends at the next zero or at the end of
+/// the stream. An empty stream and a stream of only zeros have no piece. A search that stops at the first zero, or at
+/// the end of a stream without zeros, finds the bytes before the first zero (`head`). The clause `head_for` states this
+/// for other sentinels. As long as no piece has ended, the unended bytes are the last piece, and the next zero ends it.
 ///
-/// So `decode`, with a buffer as long as the source, and `decode_in_place` agree about a source that begins with a nonzero
-/// byte: both return the same message, or both return an error.
+/// So for a source that begins with a nonzero byte, `decode_in_place` returns the same message as `decode` with a
+/// buffer as long as the source, or both return an error.
 ///
 /// ```
 /// fn begins_with_piece(stream: &[u8]) -> bool
@@ -392,11 +392,11 @@ pub fn law_12()
 
 /// The open frame of a streaming encoder.
 ///
-/// An open frame is a frame whose last block isn't full. A caller of [`EncoderState`](crate::EncoderState) writes the open
-/// frame of a message. This law states the length of the output so far, and how the open frame differs from the encoded frame.
+/// A frame is open if its last block isn't full. A caller of [`EncoderState`](crate::EncoderState) writes a message's
+/// open frame. This law states the length of the output so far, and how the open frame differs from the encoded one.
 ///
-/// So if a caller does what each [`PushResult`](crate::PushResult) says, the placeholder (the byte for the next code)
-/// is always within the output. The final output is the encoded frame, followed by 01 if the message has two frames.
+/// So if a caller does what each [`PushResult`](crate::PushResult) says, the placeholder for the next code is always
+/// within the output. The final output is the encoded frame, followed by the byte `1` if the message has two frames.
 ///
 /// ```
 /// fn as_encoded<'a>(frame: &'a [u8], message: &[u8], index: usize, code: u8) -> &'a [u8]
@@ -426,8 +426,8 @@ pub fn law_13()
 
 /// A decoder is idle exactly if no piece has begun.
 ///
-/// So [`FrameReader::new`](crate::FrameReader::new) accepts a decoder that was last fed a zero. One `push` of a frame and its
-/// zero to a new decoder decodes the frame.
+/// So [`FrameReader::new`](crate::FrameReader::new) accepts a decoder if the last byte that was fed to it was a zero. A
+/// new decoder decodes a frame if the frame and the zero after it are pushed in one `push`.
 ///
 /// ```
 /// fn reader_after_zero(mut decoder: CobsDecoderOwned) -> FrameReader<CobsDecoderOwned>

@@ -102,9 +102,9 @@ impl Streaming for ByBytes {
     }
 }
 
-/// Runs each of the three streaming decoders three times with the same buffer and input: with `push`, with single
-/// bytes, and with `feed_piece`. Returns the words of the first run. If another run has a wrong result, the words of
-/// this run are added to the words of the first run, so that the case differs.
+/// Runs each of the three streaming decoders with the same buffer and input: with `push`, with single bytes, and with
+/// `feed_piece`. Runs a [`ByBytes`] too, with `feed_piece`. Returns the words of the first run. If the result of
+/// another run differs from the expected one, more words are added to these, so that the case fails.
 ///
 /// # Errors
 /// `Malformed` if an argument can't be parsed, or if [`heapless`] has no decoder whose buffer has the length of the
@@ -284,13 +284,15 @@ fn feed_bytes<D: Streaming>(
 /// consumed are passed to another call. `taken` is the number of bytes before this chunk.
 fn feed_pieces<D: Streaming>(
     decoder: &mut D,
-    piece: &[u8],
+    chunk: &[u8],
     taken: usize,
     events: &mut CallResult,
 ) -> Result<(), CaseFault> {
-    let mut left = piece;
+    let mut left = chunk;
     let mut taken = taken;
-    'by_piece: for _ in 0..piece.len() {
+    // A call that returns an end has consumed at least one byte. So there are at most as many such calls as the chunk
+    // has bytes, and this bound shows that the loop ends.
+    'by_end: for _ in 0..chunk.len() {
         let Some((end, consumed)) = decoder.feed_piece(left) else {
             return Ok(());
         };

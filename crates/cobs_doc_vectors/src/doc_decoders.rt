@@ -1,8 +1,8 @@
 //! The examples in the documentation of the streaming decoders of `cobs`, as tests.
 //!
 //! Everything below the imports is written by `tests/docs.py --write` from the doc comments of
-//! `crates/cobs/src/dec/buffered.rt`, `frame_decoder.rt`, `heapless.rt` and `unbuffered.rt`. To change an example,
-//! change it there.
+//! `buffered.rt`, `frame_decoder.rt`, `heapless.rt`, `step.rt` and `unbuffered.rt` in `crates/cobs/src/dec`. To change
+//! an example, change its doc comment.
 
 use arrayvec::ArrayVec;
 use cobs::{

@@ -1,5 +1,5 @@
-//! Decodes all lists of a few parts with each call for whole frames, encodes the same lists as messages, and compares
-//! the results with the plain reference.
+//! Decodes all lists of a few parts, encodes all messages of a few other parts, and compares the results with those of
+//! the plain reference.
 //!
 //! `rt` is the runtime: an assertion that fails aborts the test through it.
 use crate::slices::{CallResult, Decoder, VectorCall, check_decoder, vector};
@@ -52,7 +52,7 @@ fn check_decode(rt: &impl Abort, alloc: Global, source: &[u8], room: usize) -> R
     )
 }
 
-/// Checks `decode_in_place_report`. The buffer must begin with the decoded bytes after the call, and its other bytes
+/// Checks `decode_in_place_report`. After the call, the buffer must begin with the kept output, and its other bytes
 /// must be unchanged.
 fn check_in_place(rt: &impl Abort, alloc: Global, source: &[u8]) -> Result<(), Fail> {
     let (head, _) = split_at_zero(source);
@@ -131,7 +131,8 @@ fn check_kind(rt: &impl Abort, alloc: Global, source: &[u8]) -> Result<(), Fail>
     Ok(())
 }
 
-/// Checks every call that decodes whole frames with this list as its input, and with buffers of these lengths.
+/// Checks `decode_in_place_report`, `frame_kind`, `decode` and `decode_with_sentinel` with this list as their input.
+/// The last two are checked with buffers of each of these lengths.
 fn check_list(rt: &impl Abort, alloc: Global, list: &[u8], rooms: &[usize]) -> Result<(), Fail> {
     check_in_place(rt, alloc, list)?;
     check_kind(rt, alloc, list)?;
@@ -171,6 +172,7 @@ fn every_short_list_decodes_as_the_reference_says(rt: HostRuntime) -> Result<(),
 #[test]
 fn every_list_with_full_blocks_decodes_as_the_reference_says(rt: HostRuntime) -> Result<(), Fail> {
     let full = joined(rt.alloc(), &[&[255], &ONES])?;
+    // The last byte of this block is missing, so the byte after it in the list belongs to the block.
     let nearly_full = joined(rt.alloc(), &[&[254], &[5; 252]])?;
     let parts: [&[u8]; 5] = [&full, &nearly_full, &[0], &[1], &[2]];
     let counts = [(1, 5), (2, 25), (3, 125)];

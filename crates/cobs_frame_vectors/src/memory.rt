@@ -192,6 +192,7 @@ fn decode_vec_with_sentinel(rt: HostRuntime) {
 
 #[test]
 fn decode_vec_with_sentinel_0(rt: HostRuntime) {
+    // For the sentinel 0, the frame is the one that `decode_vec` decodes.
     let call = VectorCall::DecodeWithSentinel(0);
     check_vector(&rt, rt.alloc(), call, FRAME, Ok(MESSAGE));
 }

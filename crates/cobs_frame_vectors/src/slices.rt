@@ -1,4 +1,5 @@
-//! Runs calls over slices, and compares the result and the buffer after the call with the expected ones.
+//! Runs calls over slices, and compares the result and the buffer after the call with the expected ones. Also makes the
+//! calls that return a vector.
 //!
 //! `rt` is the runtime: an assertion that fails aborts the test through it.
 use cobs::{
@@ -99,7 +100,8 @@ pub fn check_decoder(
     Ok(())
 }
 
-/// Makes a call that returns a vector, for a source of fewer than 10,000 bytes.
+/// Makes a call that returns a vector, for a source of fewer than 10,000 bytes. This bound proves what the calls that
+/// encode require: the longest frame for a message of this length has fewer than 2^64 bytes.
 pub fn vector(
     rt: &impl Abort,
     alloc: Global,

@@ -1,4 +1,4 @@
-//! Writes the line of a piece of a stream to any writer.
+//! Writes the line for a piece of a stream to any writer.
 ghost use Rattle.std.specs.Prelude.{◌≡◌, ◌<◌, ◌*◌, ◌++◌, OnOk, length, slice_index};
 ghost use Rattle.std.specs.Io.KnownBytes.{Appends};
 ghost use Rattle.hex.specs.Hex.{encode_lower, lower_digits};
@@ -17,8 +17,8 @@ const MANY: usize = 8;
 /// The hexadecimal digits.
 const DIGITS: [u8; 16] = *b"0123456789abcdef";
 
-/// Writes the line `message N HEX` for a message of N bytes, and a newline. HEX stands for the message as lower-case
-/// hexadecimal digits. For the empty message the line is `message 0`. Nothing is allocated.
+/// Writes the line `message N HEX` and a newline for a message of N bytes. HEX stands for the message's bytes as
+/// lower-case hexadecimal digits. For the empty message the line is `message 0`. Nothing is allocated.
 ///
 /// # Errors
 /// Returns the error of a write that failed. Part of the line may have been written.

@@ -1,4 +1,4 @@
-//! Bytes in memory as the source of a stream.
+//! A source of a stream, whose bytes are in memory.
 use cobs::FrameSource;
 use std::io::Read;
 

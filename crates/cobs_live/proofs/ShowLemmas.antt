@@ -37,8 +37,9 @@ pub shown_from-one : (view : View) (times : ℕ → Moment) (index : ℕ) (piece
 unfolding shown_from
 shown_from-one view times index piece = grind (arith, append-nil)
 
--- if the text of a piece in the view was written, with the tally that counts this piece too as its number, and with the
--- clock before the piece, the text that `shown` states for the piece was written
+-- Suppose that the text of a piece was written with two arguments of `in_view`: the number is the number of pieces in a
+-- tally that counts this piece too, and the times are those of a clock that has counted only the pieces before it. Then
+-- the text that `shown` states for the piece was written.
 pub shown_now : (view : View) (times : ℕ → Moment) {tally : Tally} {clock : Times} (gone : List Outcome) (outcome : Outcome) {read : ℕ} (before after : Option (List ℕ)) {seen : Seen} (piece : Ended) → seen ≡ seen_piece view.checksum view.partial piece
     → IsTallyOf view.checksum tally (gone ++ outcome ∷ []) read → IsReadAt times (length gone) clock
     → Appends before after (in_view view tally.pieces clock seen) → Appends before after (shown view times (length gone) piece)
@@ -49,16 +50,16 @@ pub with_text-empty : (held : Option (List ℕ)) (text : Composed) → text.len 
 with_text-empty None text none = refl
 with_text-empty (Some xs) text none = grind (arith, append-nil)
 
--- if `before` with the text w appended is the contents a with the composed text t, and t was then written, w was
--- appended to `before`
+-- Suppose that `before` with w appended is the contents a with the composed text t appended. If t is written to a, and
+-- the contents are then b, then b is `before` with w appended.
 append_through : (before a b : Option (List ℕ)) (t w : List ℕ) → Appends before (append_known a t) w → Appends a b t → Appends before b w
 append_through None a b t w p q = tt
 append_through (Some x) None b t w p q = absurd p
 append_through (Some x) (Some y) None t w p q = absurd q
 append_through (Some x) (Some y) (Some z) t w p q = q ∙ p
 
--- if the bytes are shown in the contents a with the composed text t, and t was then written, the bytes are shown in the
--- contents b
+-- If the bytes are shown in the contents a with the composed text t appended, and b are the contents after t was
+-- written to a, then the bytes are shown in b.
 pub ShowsBytes-through : {view : View} {times : ℕ → Moment} {n : ℕ} {p bytes : List ℕ} {gone : List Outcome} {read : ℕ} {buffer : List ℕ} {phase : Phase} {before : Option (List ℕ)} {tally : Tally} {clock : Times} (a b : Option (List ℕ)) (t : List ℕ)
     → ShowsBytes view times n p bytes gone read buffer phase before (append_known a t) tally clock → Appends a b t → ShowsBytes view times n p bytes gone read buffer phase before b tally clock
 ShowsBytes-through {before = before} a b t s q = grind (arith, append_through)
@@ -120,7 +121,7 @@ module _ (law : StreamLaw) {view : View} {times : ℕ → Moment} {n : ℕ} {p b
       → ShowsBytes view times n p (bytes ++ rest) gone read buffer' phase' before after tally clock
   ShowsBytes-rest len taken reported = grind (arith, outcomes-on, append-nil, pieces-on, all_ended-none, left-on)
 
--- the slice of the bytes from index `at` on, with its length as the function has it, is all bytes from `at` on
+-- the function takes `length bytes - at` bytes from index `at` on: these are all bytes from `at` on
 rest-of : (at : ℕ) (bytes : List ℕ) → take (length bytes - at) (drop at bytes) ≡ drop at bytes
 rest-of at bytes = grind (arith, take_all, length-drop)
 

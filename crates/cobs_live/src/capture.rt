@@ -17,7 +17,7 @@ pub fn write_capture_head<W: Write>(output: &mut W) -> io::Result<()>
 }
 
 /// Writes the header of a record: the record's time in seconds and microseconds, the number of captured bytes, and the
-/// number of sent bytes. Both numbers are `len`. `time` is in milliseconds since 1970.
+/// number of sent bytes. Both of these numbers are `len`. `time` is in milliseconds since 1970.
 pub fn write_record_head<W: Write>(output: &mut W, time: u64, len: usize) -> io::Result<()>
     ensures written { OnOk result
         (Appends (W.contents output.old) (W.contents output.new) (record_head time len)) }
@@ -28,7 +28,7 @@ pub fn write_record_head<W: Write>(output: &mut W, time: u64, len: usize) -> io:
     write_word(output, len as u64)
 }
 
-/// Writes the lowest 32 bits of a number, the lowest byte first.
+/// Writes the lowest 32 bits of a number, with the lowest byte first.
 fn write_word<W: Write>(output: &mut W, number: u64) -> io::Result<()>
     ensures written { OnOk result
         (Appends (W.contents output.old) (W.contents output.new) (word number)) }

@@ -4,7 +4,7 @@ ghost use Rattle.cobs_live.specs.Crc.{IsTable, after_byte, crc};
 
 use crate::crc::{Params, table_of};
 
-/// A cyclic redundancy check, and the order of the bytes of its checksum. The checksum follows each message.
+/// A cyclic redundancy check, and the byte order of its checksum. The checksum follows each message.
 #[derive(Debug, PartialEq, Eq, Drop)]
 pub struct Checksum {
     pub params: Params,
@@ -26,7 +26,7 @@ pub struct Checksum {
 impl Checksum {
     ghost use Rattle.cobs_live.specs.Checksum.{body_of, is_checked, sum_of};
 
-    /// Makes a check with these parameters. Its checksum has the lowest byte first if `little` is set.
+    /// Makes a check with these parameters. If `little` is set, the lowest byte of its checksum comes first.
     pub fn new(params: Params, little: bool) -> Self
         requires sized { (0 < params.size) × (params.size ≤ 4) }
         ensures params { result.params ≡ params }
@@ -48,7 +48,7 @@ impl Checksum {
         'by_byte: for byte in bytes {
             register = self.after_byte(register, *byte);
         }
-        // The result is in the high bits of the register, and is moved to the low bits.
+        // The result is in the high bits of the register. It is moved to the low bits.
         let low = if params.reflected {
             register.reverse_bits()
         } else {

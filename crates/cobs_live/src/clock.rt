@@ -1,4 +1,4 @@
-//! The times at which pieces were read, and their text.
+//! The times at which pieces were read, and the text of these times.
 ghost use Rattle.std.specs.Prelude.{◌≡◌, ◌≤◌, ◌*◌, ◌+ℤ◌, min, pos};
 ghost use Rattle.jiff_core.specs.DateTime.{civil_nanos};
 ghost use Rattle.jiff_core.specs.Timestamp.{nanos_of_seconds};
@@ -81,22 +81,23 @@ impl Moment {
     }
 }
 
-/// A clock whose times are milliseconds since it was made, or since 1970.
+/// A clock that counts the milliseconds since it was made, or since 1970.
 #[derive(Drop)]
 pub struct Timer<'a, C> {
     clock: C,
     zone: TimeZone<'a>,
     start: Instant,
 
-    /// The time when the timer was made, in milliseconds: 0, or the milliseconds since 1970.
+    /// The time at which the timer was made: 0, or the number of milliseconds since 1970.
     pub base: u64,
 }
 
 impl<'a, C: Clock + Drop> Timer<'a, C> {
-    /// Makes a timer that starts at 0, or for `Stamp::Date` at the current number of milliseconds since 1970.
+    /// Makes a timer. It starts at 0, except for `Stamp::Date`: then it starts at the current number of milliseconds
+    /// since 1970.
     ///
     /// # Errors
-    /// Returns the error of `clock` if it can't be read.
+    /// Returns the error of `clock` if the clock can't be read.
     pub fn new(clock: C, stamp: Stamp, zone: TimeZone<'a>) -> io::Result<Self> {
         let base = match stamp {
             Stamp::Untimed | Stamp::Start | Stamp::Last => 0,
@@ -142,7 +143,7 @@ impl Times {
     ghost use Rattle.std.specs.Io.KnownBytes.{Appends};
     ghost use Rattle.cobs_live.specs.Timed.{json_time, seconds, stamped, time_text};
 
-    /// Makes two times of 0, for a stream before its first bytes are read.
+    /// Makes two times that are both 0, for a stream whose first bytes haven't been read yet.
     pub fn new() -> Self
         ensures start { result.last.millis ≡ 0 }
     {

@@ -26,14 +26,14 @@ use std::str;
 /// The length in bytes of the longest message whose text is composed.
 const SHORT_LEN: usize = 256;
 
-/// The greatest length in bytes of a line without the digits of its message: the word `message` and a space, a number
-/// of up to 40 digits, a space and a newline.
+/// The greatest length in bytes of a line without the digits of its message: the word `message`, a space, a number of
+/// up to 40 digits, a space and a newline.
 const LINE: usize = 50;
 
 /// The greatest length in bytes of a composed text.
 const ROOM: usize = 2_048;
 
-/// The error of a call whose text doesn't fit.
+/// The error of a call if its text doesn't fit the room that is left.
 #[derive(Debug, PartialEq, Eq, Clone, Copy)]
 struct Full;
 
@@ -44,7 +44,7 @@ pub struct Composed {
     /// The text is the first `len` bytes.
     bytes: [u8; ROOM],
 
-    /// At most `ROOM`. No invariant states this, so the functions below test it.
+    /// The length of the text, at most `ROOM`. No invariant states this limit, so the functions below test it.
     len: usize,
 }
 
@@ -155,9 +155,9 @@ impl Composed {
     }
 
     /// Replaces the composed text by the text of a piece, and returns whether this succeeded. It succeeds only if the
-    /// piece is a short message, its text fits, and the view shows JSON without colour, number or time. If it fails,
-    /// the composed text may be only a part of the piece's text, so the caller clears it. If the view's filter hides
-    /// the message, its text is empty.
+    /// piece is a short message and its text fits, and only for a view with the style `Json` that shows neither a
+    /// colour, nor a number or a time before each message. If it fails, the composed text may be only a part of the
+    /// piece's text, so the caller clears it. If the view's filter hides the message, its text is empty.
     #[inline(always)]
     pub fn compose(&mut self, view: &View, number: u64, times: &Times, piece: &Sight<'_>) -> bool
         ensures shown { IsTrue result → take self.new.len self.new.bytes
@@ -176,10 +176,10 @@ impl Composed {
         self.put_message(view.style, number, piece).is_ok()
     }
 
-    /// Adds a message with this number, without colour and time, if the style is `Json`. For other styles, `put_message`
-    /// returns `Full`, and the caller writes the text directly. The text has no time, so the clause `put` is true for all
-    /// `times`. [`compose`](Composed::compose) has already tested the style. The style is matched again, because the
-    /// clause `put` is stated for every style.
+    /// Adds a message with this number, but without colour or time, if the style is `Json`. For other styles,
+    /// `put_message` returns `Full`, and the caller writes the text directly. The text has no time, so the clause `put`
+    /// is true for all `times`. [`compose`](Composed::compose) has already tested the style. The style is matched
+    /// again, because the clause `put` is stated for every style.
     #[inline(always)]
     fn put_message(&mut self, style: Style, number: u64, piece: &Sight<'_>) -> Result<(), Full>
         requires message { piece.now.kind ≡ Message }
@@ -211,7 +211,8 @@ impl Composed {
         self.append(b"\n");
     }
 
-    /// Adds a message as a JSON object on a line. The object has no time, so the clause `put` is true for all `times`.
+    /// Adds a message as a JSON object on its own line. The object has no time, so the clause `put` is true for all
+    /// `times`.
     fn put_json(&mut self, number: u64, piece: &Sight<'_>) -> Result<(), Full>
         requires message { piece.now.kind ≡ Message }
         ensures put { (times : Times) → OnOk result (Appends (contents_of self.old) (contents_of self.new)
@@ -300,7 +301,7 @@ impl Composed {
         if code < 65_536 {
             return self.put_unit(code as u16);
         }
-        // As in `write_escape` of `escape.rt`.
+        // The surrogates are computed as in `write_escape` of `escape.rt`.
         self.put_unit((0xD800 + (code - 65_536) / 1024 % 1024) as u16)?;
         self.put_unit((0xDC00 + code % 1024) as u16)
     }
@@ -400,7 +401,7 @@ impl Composed {
     }
 }
 
-/// Returns whether the view shows pieces without colour, number or time.
+/// Returns whether the view shows neither a colour, nor a number or a time before each message.
 fn is_bare(view: &View) -> bool
     ensures bare { IsTrue result
         → (view.now.color ≡ false) × (view.now.number ≡ false) × (view.now.stamp ≡ Untimed) }

@@ -31,7 +31,8 @@ pub enum Crc {
 }
 
 /// The parameters of a cyclic redundancy check (CRC), as in the catalogue of parametrised CRC algorithms. A check is
-/// computed in a *register* of 32 bits. If the check has fewer bits, its polynomial and its initial value are shifted to the high bits.
+/// computed in a *register* of 32 bits. If the check has fewer bits, its polynomial and its initial value are shifted
+/// to the high bits of the register.
 #[derive(Debug, PartialEq, Eq, Clone, Copy)]
 pub struct Params {
     /// The checksum's length in bytes, from 1 to 4.

@@ -23,7 +23,7 @@ pub fn write_dump<W: Write>(output: &mut W, bytes: &[u8]) -> io::Result<()>
     Ok(())
 }
 
-/// Writes the line of up to sixteen bytes, the first of which is at `offset`.
+/// Writes one line with up to sixteen bytes, the first of which is at `offset`.
 fn write_row<W: Write>(output: &mut W, offset: usize, row: &[u8]) -> io::Result<()>
     requires few { length row.now ≤ 16 }
     ensures written { OnOk result

@@ -1,4 +1,4 @@
-//! Writes text as a part of a JSON string. Characters on which a terminal acts are escaped too.
+//! Writes text as a part of a JSON string. Characters that control a terminal are escaped too.
 ghost use Rattle.std.specs.Prelude.{◌≡◌, ◌<◌, ◌++◌, All, IfOk, IsTrue, OnOk, drop, false, length, take};
 ghost use Rattle.std.specs.Char.{encode_utf8};
 ghost use Rattle.std.specs.Io.KnownBytes.{Appends};
@@ -15,8 +15,8 @@ pub fn is_hidden(c: char) -> bool
     ensures hidden { result ≡ is_hidden c }
 {
     let code = u32::from(c);
-    // Of the characters below 127, only those below 32 are hidden: they are control characters. So the category of
-    // these characters isn't looked up.
+    // Of the characters below 127, only the control characters below 32 are hidden. So the category of a character
+    // below 127 isn't looked up.
     if code < 127 {
         return code < 32;
     }
@@ -129,8 +129,8 @@ fn write_escape<W: Write>(output: &mut W, code: u32) -> io::Result<()>
     if code < 65_536 {
         return write_unit(output, code as u16);
     }
-    // As in UTF-16: the first surrogate has the upper 10 bits of `code - 65_536`, and the second has the lower 10 bits,
-    // which are also the lower 10 bits of `code`.
+    // The surrogates are those of UTF-16. The first surrogate has the upper 10 bits of `code - 65_536`. The second
+    // surrogate has the lower 10 bits, which are also the lower 10 bits of `code`.
     write_unit(output, (0xD800 + (code - 65_536) / 1024 % 1024) as u16)?;
     write_unit(output, (0xDC00 + code % 1024) as u16)
 }

@@ -30,7 +30,7 @@ pub enum WatchFault {
 }
 
 impl From<AllocError> for WatchFault {
-    // The result of `from`, for the proofs of callers whose `?` converts an `AllocError`.
+    // States the result of `from`. Proofs of callers in which `?` converts an `AllocError` use this.
     ghost from_gives = { λ _ fault. fault ≡ OutOfMemory };
 
     fn from(_error: AllocError) -> WatchFault {

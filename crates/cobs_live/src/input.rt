@@ -1,5 +1,5 @@
-//! Inputs whose reads have the output as an argument, so that contracts can describe the text that had been written
-//! when each read began.
+//! Inputs whose reads take the output as an extra argument. So a contract can say which text had been written when a
+//! read began.
 ghost use Rattle.std.specs.Prelude.{◌≡◌, ◌+◌, ◌++◌, List, Option, ℕ, IfOk, OnOk, IfSome, vec_len};
 ghost use Rattle.std.specs.Prelude.{length};
 ghost use Rattle.std.specs.Io.{StopsAt, appended_bytes};
@@ -20,13 +20,13 @@ pub enum Came {
     HungUp,
 }
 
-/// An input whose reads have the output as an argument.
+/// An input whose reads take the output as an extra argument.
 ///
-/// Contracts describe an input by a relation, `step`, between a state of the input, a read, and the state after that
-/// read. The record of the read includes the contents of the output when the read began. So a theorem about any input
-/// can describe the text that had been written when each read began.
+/// Contracts describe an input by the relation `step`. It relates the state of the input before a read, the read
+/// itself, and the state after the read. The record of the read includes the contents of the output when the read
+/// began. So a theorem about any input can say which text had been written when each read began.
 pub trait LiveInput<W: Write + Drop> {
-    /// The bytes that the next reads will return, if they are known.
+    /// The bytes that the next reads will return, if these bytes are known.
     ghost remaining: { Self → Option (List ℕ) };
 
     /// Whether this read may change the input from the first state to the second.
@@ -43,10 +43,10 @@ pub trait LiveInput<W: Write + Drop> {
         }) self.new };
 }
 
-/// An input that is read line by line, with the output as an argument of each read. Contracts describe a `LiveLines` in
-/// the same way as a [`LiveInput`].
+/// An input that is read line by line. Each read takes the output as an extra argument. Contracts describe a
+/// `LiveLines` in the same way as a [`LiveInput`].
 pub trait LiveLines<W: Write + Drop> {
-    /// The bytes that the next reads will return, if they are known.
+    /// The bytes that the next reads will return, if these bytes are known.
     ghost remaining: { Self → Option (List ℕ) };
 
     /// Whether this read may change the input from the first state to the second.
@@ -70,7 +70,7 @@ pub trait LiveLines<W: Write + Drop> {
         }) self.new };
 }
 
-/// An input over any reader. It never hangs up, and doesn't use the output that its methods get.
+/// An input over any reader. It never hangs up, and doesn't use the output that is passed to its methods.
 #[derive(Drop)]
 pub struct AnyInput<R> {
     reader: R,

@@ -11,7 +11,7 @@ use cobs_lines::write_digits;
 use std::io::{self, Write};
 use std::str;
 
-/// Writes the piece with this number as a JSON object, on its own line. `stamp` says whether the object has a member
+/// Writes a piece, with this number, as a JSON object on its own line. `stamp` says whether the object has a member
 /// `time`, and which time that is.
 pub fn write_json<W: Write>(
     output: &mut W,

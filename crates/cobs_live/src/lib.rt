@@ -1,13 +1,13 @@
-//! Shows the frames of a serial line as they arrive, and sends each line of a text as a frame. The functions read from any
-//! reader, and write to any writer.
+//! Shows the frames of a serial line as they arrive, and sends each line of a text as a frame. The functions read from
+//! any reader, and write to any writer.
 //!
 //! This crate is the program `cobs_watch` without its command line. `show::run_show` reads a stream of frames, and
 //! shows each piece when its sentinel arrives. `send::run_send` sends each line of an input as a frame.
 //!
-//! `seen` has the type of a piece that is going to be shown: the piece's kind and its bytes. `shown` has the settings
-//! that say which pieces are shown, and in which style. `line`, `json`, `dump`, `capture`, `escape` and `composed`
-//! write the text of a piece. `clock` has the times of pieces, `checksum` and `crc` have the checksums, and `tally` has
-//! the counts. `input` and `port` have the readers and writers. `fault` has the errors of `run_show` and `run_send`.
+//! The module `seen` has the type of a piece that is about to be shown. `shown` has the settings: which pieces are
+//! shown, and in which style. `line`, `json`, `dump`, `capture`, `escape` and `composed` write the text of a piece.
+//! `clock` has the times of pieces, `checksum` and `crc` have the checksums, and `tally` has the counts. `input` and
+//! `port` have the readers and writers. `fault` has the errors of `run_show` and `run_send`.
 #![tactic(auto)]
 
 pub mod capture;

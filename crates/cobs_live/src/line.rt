@@ -1,4 +1,4 @@
-//! Writes a piece in each style.
+//! Writes a piece in any style.
 ghost use Rattle.std.specs.Prelude.{◌≡◌, OnOk, IfSome, IsSome, ◌↔◌, IsTrue};
 ghost use Rattle.std.specs.Io.KnownBytes.{Appends};
 ghost use Rattle.cobs_lines.specs.Lines.{spaced_digits};
@@ -16,7 +16,7 @@ use cobs_lines::write_digits;
 use std::io::{self, Write};
 use std::str;
 
-/// Writes the piece with this number and these times in the style of the view.
+/// Writes a piece, with this number and these times, in the view's style.
 pub fn write_line<W: Write>(
     output: &mut W,
     view: &View,
@@ -78,8 +78,8 @@ fn write_title<W: Write>(output: &mut W, kind: Kind, len: usize) -> io::Result<(
     }
 }
 
-/// Writes the start of a piece's line: the title, and the mark `partial` if the piece is broken or too long and has
-/// decoded bytes, which follow the mark.
+/// Writes the start of a piece's line: the title, and then the mark `partial` if the piece is broken or too long and
+/// has decoded bytes. The decoded bytes follow the mark.
 fn write_heading<W: Write>(output: &mut W, color: bool, piece: &Sight<'_>) -> io::Result<()>
     ensures written { OnOk result (Appends (W.contents output.old) (W.contents output.new)
         (heading color (seen_in piece.now))) }
@@ -88,7 +88,8 @@ fn write_heading<W: Write>(output: &mut W, color: bool, piece: &Sight<'_>) -> io
     write_mark(output, piece.kind, piece.bytes)
 }
 
-/// Writes the mark `partial` if the piece is broken or too long, and has decoded bytes, which follow the mark.
+/// Writes the mark `partial` if the piece is broken or too long and has decoded bytes. The decoded bytes follow the
+/// mark.
 fn write_mark<W: Write>(output: &mut W, kind: Kind, bytes: &[u8]) -> io::Result<()>
     ensures written { OnOk result
         (Appends (W.contents output.old) (W.contents output.new) (mark kind bytes.now)) }

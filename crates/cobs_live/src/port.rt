@@ -37,9 +37,9 @@ impl<'a, C: Clock + Drop, F: Drop> Port<'a, C, F> {
         }
     }
 
-    /// Returns whether the port has to try the call again: pauses and returns true if the call would have blocked. For
-    /// a failure, stores the system's error number in `reason`. The number of an interruption isn't stored, because the
-    /// port's caller tries again after an interruption.
+    /// Returns whether the port has to try the call again. If the call would have blocked, pauses and returns true. If
+    /// the call failed for another reason, stores the system's error number in `reason`. The number of an interruption
+    /// isn't stored, because the port's caller tries again after an interruption.
     fn tries_again(&self, done: &io::Result<usize>) -> bool
         ensures failed { IsOk done.now → result ≡ false }
     {
@@ -57,7 +57,7 @@ impl<'a, C: Clock + Drop, F: Drop> Port<'a, C, F> {
     }
 }
 
-// The loops of this file have a greatest number of tries, because each function is proved to end.
+// The loops of this file limit the number of tries, because every function is proved to end.
 impl<C: Clock + Drop, R: Read + Drop> Read for Port<'_, C, R> {
     ghost use Rattle.cobs_live.specs.Ports.{inner_of};
 
@@ -103,8 +103,8 @@ pub trait Opener<R> {
     fn open(&self) -> io::Result<R>;
 }
 
-/// A line that is opened again each time it hangs up. A line hangs up if it ends, or if a read of it fails with an error
-/// other than "interrupted" or "would block".
+/// A line that is opened again each time it hangs up. A line hangs up if it ends, or if a read from it fails with an
+/// error other than "interrupted" or "would block".
 #[derive(Drop)]
 pub struct Reopened<C, O, R> {
     clock: C,
@@ -128,7 +128,7 @@ impl<C: Clock + Drop, O: Opener<R> + Drop, R: Read + Drop> Reopened<C, O, R> {
         }
     }
 
-    /// Tries to open the line, with a pause before each attempt, until it is open.
+    /// Tries to open the line until it is open, with a pause before each attempt.
     fn wait(&mut self)
         ensures stays { IsSome self.old.line → self.new.line ≡ self.old.line }
     {
@@ -189,7 +189,7 @@ pub struct Logged<W, L> {
     inner: W,
     log: Option<L>,
 
-    /// The error of a failed write to the log, until the next flush returns it.
+    /// The error of a failed write to the log. It is kept until the next flush returns it.
     failed: Option<io::Error>,
 }
 
@@ -233,7 +233,7 @@ impl<W: Write + Drop, L: Write + Drop> Write for Logged<W, L> {
 
     ghost contents = { λ logged. W.contents (logged_inner logged) };
 
-    /// Writes the bytes to the writer, and then writes the bytes that the writer has accepted to the log.
+    /// Writes the bytes to the writer. Then writes to the log all bytes that the writer has accepted.
     fn write(&mut self, buf: &[u8]) -> io::Result<usize>
         ensures bound { WritesAtMost result buf.now }
         ensures bytes { WriteAppends (W.contents self.old.inner) (W.contents self.new.inner) result buf.now }

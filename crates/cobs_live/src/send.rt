@@ -35,13 +35,15 @@ pub struct Settings {
 /// message in the frame.
 ///
 /// Returns whether every line was sent. If `settings.hex` is set, a line that isn't hexadecimal digits is skipped, and
-/// its number, counted from 1, is reported on `errors`. An interrupted read is tried again. At any time, memory is
-/// allocated for only one line, its message and its frame.
+/// its number, counted from 1, is reported on `errors`. An interrupted read is tried again. Memory is never allocated
+/// for more than one line, its message and its frame at a time.
 ///
-/// - `ReadFailed`: a read failed, or memory ran out while a line was read. All earlier lines were sent.
+/// # Errors
+/// - `ReadFailed`: a read failed, or memory ran out while a line was read. All earlier lines were sent or skipped.
 /// - `WriteFailed`: a write or a flush failed. Part of a frame may have been written.
 /// - `OutputClosed`: a write or a flush failed because nobody reads the output any more.
-/// - `OutOfMemory`: memory ran out while the message or the frame of a line was made. All earlier lines were sent.
+/// - `OutOfMemory`: memory ran out while the message or the frame of a line was made. All earlier lines were sent or
+///   skipped.
 pub fn run_send<S: LiveLines<W>, W: Write + Drop, E: Write>(
     alloc: Global,
     settings: &Settings,
@@ -61,6 +63,8 @@ pub fn run_send<S: LiveLines<W>, W: Write + Drop, E: Write>(
     // The loop has a greatest number of lines, because each function is proved to end.
     'by_line: for number in 1..usize::MAX {
         line.clear();
+        // The read doesn't need the output. It is an argument so that the clause `live` can say that the output held
+        // the frames of all earlier lines when this read began.
         let Ok(count) = input.read_line_beside(output, &mut line) else {
             return Err(WatchFault::ReadFailed);
         };
@@ -73,6 +77,7 @@ pub fn run_send<S: LiveLines<W>, W: Write + Drop, E: Write>(
             let _ = writeln!(errors, "cobs_watch: line {number}: not hexadecimal digits");
         }
     }
+    // After the greatest number of lines, the call ends as if a read had failed. No input has so many lines.
     Err(WatchFault::ReadFailed)
 }
 
@@ -134,7 +139,8 @@ fn digits_of(alloc: Global, text: &[u8]) -> Result<Vec<u8>, AllocError>
     Ok(digits)
 }
 
-/// Returns whether a byte of a line should be a digit: it isn't a space, a tab or a carriage return.
+/// Returns whether a byte of a line should be a digit. Every byte should be one, except spaces, tabs and carriage
+/// returns.
 fn is_digit(byte: u8) -> bool
     ensures digit { result ≡ is_digit byte }
 {

@@ -1,4 +1,4 @@
-//! Shows a stream while its bytes arrive.
+//! Shows a stream as its bytes arrive.
 ghost use Rattle.std.specs.Prelude.{◌≡◌, ◌≢◌, ◌<◌, ◌≤◌, ◌↔◌, ℕ, List, [], length, take, OnOk, IfOk, IfErr, IfSome, IsTrue, Option, Ok, Err, false};
 ghost use Rattle.std.specs.Io.KnownBytes.{Appends, Keeps};
 ghost use Rattle.std.specs.Io.Buffered.{writer_buffer, writer_inner};
@@ -32,12 +32,12 @@ use std::alloc::{AllocError, Global};
 use std::io::{BufWriter, ErrorKind, Write};
 use std::rt::Clock;
 
-/// The first search for the zero of a short frame looks at this many bytes, which fill one vector. The second search
-/// looks at [`NEAR`] bytes.
+/// The first search for the zero that ends a short frame looks at this many bytes, which fill one vector. The second
+/// search looks at [`NEAR`] bytes.
 const NEAREST: usize = 16;
 
-/// The search for the zero of a short frame looks at up to this many bytes. If none of them is a zero, all bytes are
-/// passed to the decoder.
+/// The second search for the zero that ends a short frame looks at up to this many bytes. If none of them is a zero,
+/// all remaining bytes of the chunk are passed to the decoder.
 const NEAR: usize = 64;
 
 /// The greatest number of bytes of one read: 64 KiB. If a read returns fewer bytes, the pieces that end in them are
@@ -45,18 +45,19 @@ const NEAR: usize = 64;
 pub const CHUNK_LEN: usize = 65_536;
 
 /// Shows each piece of the input when the piece's sentinel arrives. At the end of the input, shows `unfinished` if a
-/// piece has begun and not ended. A hang-up of the line doesn't end a piece. After a hang-up, `run_show` shows
-/// `unfinished` if a piece has begun and not ended. Then it shows `hung up`, and skips all bytes up to the next
+/// piece has begun but not ended. A hang-up of the line doesn't end a piece. After a hang-up, `run_show` shows
+/// `unfinished` if a piece has begun but not ended. Then it shows `hung up`, and skips all bytes up to the next
 /// sentinel.
 ///
 /// `run_show` calls [`Watch::show_next`] repeatedly. Each call reads once, shows the pieces that ended, and flushes the
-/// output. So all pieces that have ended so far have been written before the program waits for more bytes. Memory is
-/// allocated only before the first read: for a message of the greatest length, and for a chunk of the input.
+/// output. So before the program waits for more bytes, it has written all pieces that have ended. Memory is allocated
+/// only before the first read: for a message of the greatest length, and for a chunk of the input.
 ///
 /// If `counting.at_end` is set, the counts are written to `errors` at the end, even after a fault. `counting.every` is
 /// an interval in milliseconds, or `None`. With an interval, the counts so far are also written while bytes arrive, at
 /// most once per interval. A failure to write the counts isn't a fault.
 ///
+/// # Errors
 /// - `ReadFailed`: a read failed, for example because a serial line was unplugged. All pieces that had ended before
 ///   this read have been shown. If another piece had begun, `unfinished` has been shown after them.
 /// - `WriteFailed`: a write or a flush failed. Part of the text may have been written.
@@ -82,7 +83,7 @@ pub fn run_show<C: Clock + Drop, S: LiveInput<W>, W: Write + Drop, E: Write>(
     let mut watch = Watch::new(alloc, settings)?;
     let mut chunk = vec![in alloc; 0; CHUNK_LEN]?;
     let mut counted = timer.base;
-    // The loop has a greatest number of reads, because each function is proved to end.
+    // The number of reads is limited, because every function is proved to end.
     'by_read: for _read in 0..usize::MAX {
         let next = watch.show_next(timer, &mut chunk, input, output);
         if counting.at_end && next != Ok(true) {
@@ -126,7 +127,7 @@ impl<'a> Watch<'a> {
     /// Makes a watch that has shown nothing yet.
     ///
     /// # Errors
-    /// `AllocError` if there is no memory for a message of the greatest length.
+    /// Returns `AllocError` if there isn't enough memory for a message of the greatest length.
     pub fn new(alloc: Global, settings: &'a Settings) -> Result<Self, AllocError>
         ensures start { IfOk result (λ watch. (from before : Option (List ℕ)) →
             HasShownSoFar settings.now from from before before watch) }
@@ -143,16 +144,16 @@ impl<'a> Watch<'a> {
         })
     }
 
-    /// Reads bytes once into `chunk`, shows each piece that ends in them, flushes the output, and returns whether the
-    /// input continues. If a piece has begun and not ended, shows `unfinished` at the end of the input, after a failed
-    /// read, and after a hang-up. After a hang-up, also shows `hung up`.
+    /// Reads once into `chunk`, shows each piece that ends in the bytes of this read, and flushes the output. Returns
+    /// whether the input continues. At the end of the input, after a failed read and after a hang-up, shows
+    /// `unfinished` if a piece has begun but not ended. After a hang-up, then shows `hung up`.
     ///
-    /// Nothing is written before the read. When the read begins, the output has been flushed (`flushed`), so all pieces
-    /// that had ended have been shown. An interrupted read is tried again.
+    /// Nothing is written before the read. The output has been flushed when the read begins (`flushed`), so all pieces
+    /// that have ended by then have been shown. An interrupted read is tried again.
     ///
     /// # Errors
-    /// `ReadFailed` if the read failed; no piece has ended in this call. `WriteFailed` if a write or a flush failed. If
-    /// the write or the flush failed because nobody reads the output any more, the error is `OutputClosed` instead.
+    /// Returns `ReadFailed` if the read failed. Then no piece has ended in this call. Returns `WriteFailed` if a write
+    /// or a flush failed, or `OutputClosed` if it failed because nobody reads the output any more.
     pub fn show_next<C: Clock + Drop, S: LiveInput<W>, W: Write + Drop>(
         &mut self,
         timer: &Timer<'_, C>,
@@ -162,12 +163,13 @@ impl<'a> Watch<'a> {
     ) -> Result<bool, WatchFault>
         requires some { 0 < length chunk.old }
         requires flushed { writer_buffer output.old ≡ [] }
-        // If every ended piece was shown before the call, every ended piece is shown after the call.
+        // If every ended piece had been shown before the call, every ended piece has been shown after the call.
         ensures shown { (settings : Settings) (from before : Option (List ℕ)) → HasShownSoFar settings from
             (S.remaining input.old) before (W.contents (writer_inner output.old)) self.old
             → ShowsNext settings result from (S.remaining input.new) before
             (W.contents (writer_inner output.new)) self.new }
-        // If every ended piece was shown at each read so far, the same is true at the read of this call.
+        // If every ended piece had been shown when each earlier read began, this is also true for the read of this
+        // call.
         ensures live { (settings : Settings) (start : S) (from before : Option (List ℕ))
             → IsLiveSoFar S.step start input.old settings from (S.remaining input.old) before
             (W.contents (writer_inner output.old)) self.old
@@ -217,7 +219,7 @@ impl<'a> Watch<'a> {
         Ok(true)
     }
 
-    /// Shows `unfinished` if a piece has begun and no sentinel has ended it. `end` is called if no bytes follow,
+    /// Shows `unfinished` if a piece has begun and no sentinel has ended it. `end` is called when no more bytes follow,
     /// because the input has ended or can't be read.
     fn end<W: Write + Drop>(&self, output: &mut BufWriter<W>) -> Result<(), WatchFault>
         requires flushed { writer_buffer output.old ≡ [] }
@@ -233,7 +235,7 @@ impl<'a> Watch<'a> {
         Ok(())
     }
 
-    /// Shows `unfinished` if a piece has begun and not ended. Then shows `hung up`. The bytes of the next connection
+    /// Shows `unfinished` if a piece has begun but not ended. Then shows `hung up`. The bytes of the next connection
     /// are skipped up to its first sentinel, because the connection may begin in the middle of a frame.
     fn hang_up<W: Write + Drop>(&mut self, output: &mut BufWriter<W>) -> Result<(), WatchFault>
         requires flushed { writer_buffer output.old ≡ [] }
@@ -281,15 +283,15 @@ fn read_chunk<S: LiveInput<W>, W: Write + Drop>(
     Err(WatchFault::ReadFailed)
 }
 
-/// Returns whether a piece has begun and not ended.
+/// Returns whether a piece has begun but not ended.
 fn has_begun(decoder: &UnbufferedDecoder) -> bool
     ensures idle { (result ≡ false) ↔ (phase_of decoder.now ≡ Idle) }
 {
     !decoder.is_idle()
 }
 
-/// XORs each byte with the sentinel, so that frames for that sentinel become frames for 0. If the sentinel is 0, the
-/// bytes don't change and aren't accessed.
+/// XORs each byte with the sentinel, so that frames with this sentinel become frames with the sentinel 0. If the
+/// sentinel is 0, the bytes don't change and aren't accessed.
 fn change_sentinel(bytes: &mut [u8], sentinel: u8)
     ensures { bytes.new ≡ xor_each sentinel bytes.old }
 {
@@ -391,7 +393,7 @@ fn end_within(bytes: &[u8], most: usize) -> Option<usize>
     if zero < near { Some(zero + 1) } else { None }
 }
 
-/// Shows the piece with this number and these times. For a short message in some styles, the text is first composed in
+/// Shows a piece, with this number and these times. In some styles, the text of a short message is first composed in
 /// memory ([`Composed`]). The composed text is written in one call, or is kept and later written with the text of other
 /// pieces.
 #[inline(always)]

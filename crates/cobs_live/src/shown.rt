@@ -28,8 +28,8 @@ pub enum Style {
     /// The bytes of each message, followed by a newline. Other pieces aren't shown.
     Raw,
 
-    /// A line for each piece, and below it the bytes of a message, sixteen per line: their offset, hexadecimal digits
-    /// and characters.
+    /// A line for each piece. Below this line are the bytes of a message, sixteen per line. Each of these lines has an
+    /// offset, hexadecimal digits and characters.
     Hexdump,
 
     /// A JSON object for each piece, on its own line.
@@ -60,8 +60,8 @@ pub struct Filter {
     /// Whether `unfinished` and `hung up` are shown.
     pub unfinished: bool,
 
-    /// The least and the greatest number of decoded bytes of a piece that is shown. A piece that is too long counts as
-    /// `usize::MAX` bytes.
+    /// `min` and `max` are the least and the greatest number of decoded bytes that a shown piece may have. A piece that
+    /// is too long counts as `usize::MAX` bytes.
     pub min: usize,
     pub max: usize,
 
@@ -80,7 +80,7 @@ pub struct View {
     /// styles `Hex`, `Text` and `Hexdump` have titles.
     pub color: bool,
 
-    /// Whether the number of each piece is written before its line. Pieces that a filter holds back are counted too.
+    /// Whether the number of each piece is written before its line. Pieces that the filter hides are counted too.
     pub number: bool,
 
     /// Which time is written before the line of each piece, or in its JSON object.
@@ -115,7 +115,7 @@ pub struct Settings {
 }
 
 /// Converts the end of a piece to a [`Sight`]. The front of `buffer` has the bytes that the piece decodes to, as far as
-/// they fit. If there is a checksum, a message should end with it.
+/// they fit. If there is a checksum, each message should end with its checksum.
 pub fn sight_of<'a>(checksum: &Option<Checksum>, end: PieceEnd, buffer: &'a [u8]) -> Sight<'a>
     requires within { IsWithin (length buffer.now) end }
     ensures seen { seen_in result ≡ seen_of checksum.now (outcome_at end buffer.now) }
@@ -135,8 +135,8 @@ pub fn sight_of<'a>(checksum: &Option<Checksum>, end: PieceEnd, buffer: &'a [u8]
     }
 }
 
-/// Returns the [`Sight`] of a message. If there is a checksum, the message should end with it: a right checksum is
-/// removed from the message, and a wrong one makes the kind `BadCrc`.
+/// Returns the [`Sight`] of a message. If there is a checksum, the message should end with it. A right checksum is
+/// removed from the message. If the checksum is wrong, the kind is `BadCrc`.
 fn message_sight<'a>(checksum: &Option<Checksum>, message: &'a [u8]) -> Sight<'a>
     ensures seen { seen_in result ≡ seen_message checksum.now message.now }
 {
@@ -215,7 +215,7 @@ impl Filter {
     }
 }
 
-/// Shows the piece with this number and these times, unless the view's filter hides it.
+/// Shows a piece, with this number and these times, unless the view's filter hides it.
 pub fn show_piece<W: Write>(
     output: &mut W,
     view: &View,
@@ -247,7 +247,7 @@ fn write_time<W: Write>(output: &mut W, view: &View, times: &Times) -> io::Resul
     }
 }
 
-/// Shows the end of a stream: writes `unfinished` if a piece had begun and not ended.
+/// Shows the end of a stream: writes `unfinished` if a piece had begun but not ended.
 pub fn show_end<W: Write>(output: &mut W, view: &View, unfinished: bool) -> io::Result<()>
     ensures shown { OnOk result (Appends (W.contents output.old) (W.contents output.new)
         (shown_end view.now unfinished)) }
@@ -262,7 +262,7 @@ pub fn show_end<W: Write>(output: &mut W, view: &View, unfinished: bool) -> io::
     }
 }
 
-/// Shows that a serial line hung up. If a piece had begun and not ended, `unfinished` is shown first.
+/// Shows that a serial line hung up. If a piece had begun but not ended, `unfinished` is shown first.
 pub fn show_hang_up<W: Write>(output: &mut W, view: &View, unfinished: bool) -> io::Result<()>
     ensures shown { OnOk result (Appends (W.contents output.old) (W.contents output.new)
         (shown_hang_up view.now unfinished)) }

@@ -111,8 +111,8 @@ const TIMED: [(Style, Stamp, &[u8]); 4] = [
     ),
 ];
 
-/// The text with decoded bytes, by style, for four pieces: a broken piece, a piece that is too long for four bytes, a
-/// piece that decodes to no byte, and a message.
+/// The text by style, if the decoded bytes of broken pieces and of too long pieces are shown too. There are four
+/// pieces: a broken piece, a piece that is too long for four bytes, a piece that decodes to no byte, and a message.
 const PARTIAL: [(Style, &[u8]); 5] = [
     (
         Style::Hex,
@@ -158,7 +158,7 @@ const SENT: [(bool, &[u8], &[u8], bool); 3] = [
     (true, b"6\n", b"", false),
 ];
 
-/// Nothing is counted.
+/// The counts are never written.
 const SILENT: Counting = Counting {
     at_end: false,
     every: None,

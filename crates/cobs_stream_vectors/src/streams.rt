@@ -84,7 +84,7 @@ const CASES: [Case; 6] = [
         b"\0\x0chello world\0",
         &[Wanted::Message(b"hello world")],
     ),
-    // the frames of the three messages
+    // A stream without damage: the frames of three messages.
     (
         2,
         &[1, 0, 1, 1, 0, 3, 1, 2, 0],
@@ -128,14 +128,17 @@ fn push_all<D: StreamingDecoder>(
                 outcomes.push(FrameOutcome::Broken(count))?;
             }
             CallResult::TooSmall if is_ended => outcomes.push(FrameOutcome::TooLong)?,
+            // The piece is too long, but it hasn't ended. Its zero reports this again, and then the outcome is
+            // appended.
             CallResult::TooSmall => {}
         }
     }
     panic!(rt; "a push consumed nothing");
 }
 
-/// A case whose stream is decoded in chunks. It is cut at each pair of places, for up to three calls of `decode_stream`,
-/// and at each place, for two rounds of pushes. The stream ends with a zero, so the decoder is idle after each round.
+/// A case whose stream is decoded in chunks. It is cut at each pair of places, for three calls of `decode_stream`, some
+/// of which may get no bytes, and at each place, for two rounds of pushes. The stream ends with a zero, so the decoder
+/// is idle after each round.
 #[derive(Drop)]
 struct Cuts {
     case: Case,
@@ -286,7 +289,7 @@ fn write_at(rt: &impl Abort, list: &mut Vec<u8>, at: usize, byte: u8) {
     list[at] = byte;
 }
 
-/// Checks streams in which the byte at each place is replaced by each other nonzero byte, removed, or replaced by a zero.
+/// Checks streams in which the byte at one of the places is removed, or replaced by each byte.
 fn check_places(
     rt: &impl Abort,
     alloc: Global,
@@ -303,6 +306,7 @@ fn check_places(
         };
         for byte in 0..=255u8 {
             write_at(rt, &mut changed, *at, byte);
+            // A zero inside a piece makes two pieces of it. A zero in place of its first or last byte makes it shorter.
             let own = if byte == 0 && *is_inside { 2 } else { 1 };
             check_damage(rt, alloc, &changed, outcomes, (*piece, own))?;
         }

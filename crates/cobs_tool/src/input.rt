@@ -14,10 +14,11 @@ pub const READ_LEN: usize = 8_192;
 
 /// Reads to the end of the input, that is, to the first read that returns 0 bytes.
 ///
+/// # Errors
 /// - `ReadFailed`: a read failed. An interrupted read is a failed read, and isn't tried again.
 /// - `InputTooLong`: the input has more than [`MAX_INPUT`] bytes. No memory was allocated for the read that exceeded
 ///   this limit.
-/// - `OutOfMemory`: memory for a read's bytes ran out.
+/// - `OutOfMemory`: memory ran out for the bytes of a read.
 ///
 /// Nothing is read after a read that failed, returned 0 bytes or exceeded the limit.
 pub fn read_input<R: Read>(alloc: Global, input: &mut R) -> Result<Vec<u8>, ToolFault>

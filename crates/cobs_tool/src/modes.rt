@@ -41,6 +41,7 @@ pub fn run_mode<R: Read, W: Write>(
 /// line is written. So after every fault except `WriteFailed` nothing has been written. After a `WriteFailed`, part of
 /// the line may have been written. Whether an interrupted write is tried again isn't specified.
 ///
+/// # Errors
 /// - `ReadFailed`: a read failed. An interrupted read is a failed read.
 /// - `InputTooLong`: the reader returned more than [`MAX_INPUT`] bytes.
 /// - `OutOfMemory`: memory ran out for the input, its frame or the line.
@@ -65,7 +66,8 @@ pub fn run_show<R: Read, W: Write>(
 
 /// Writes the encoded frame of the input, and a zero after it.
 ///
-/// The whole input is one message. The input is read as in [`run_show`], and the faults are the same.
+/// The whole input is one message. The function reads the input in the same way as [`run_show`], and returns the same
+/// errors.
 pub fn run_encode<R: Read, W: Write>(
     alloc: Global,
     input: &mut R,
@@ -86,7 +88,7 @@ pub fn run_encode<R: Read, W: Write>(
 /// Prints the lines that [`report_of`] returns for the pieces of the input. The input is a stream of frames, each ended
 /// by a zero.
 ///
-/// The input is read as in [`run_show`], and the faults are the same.
+/// The function reads the input in the same way as [`run_show`], and returns the same errors.
 pub fn run_decode<R: Read, W: Write>(
     alloc: Global,
     input: &mut R,

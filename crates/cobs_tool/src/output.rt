@@ -7,7 +7,8 @@ use std::io::Write;
 
 /// Writes all of the bytes and flushes the writer.
 ///
-/// `WriteFailed`: a write or the flush failed. Some of the bytes may have been written.
+/// # Errors
+/// Returns `WriteFailed` if a write or the flush failed. Some of the bytes may have been written.
 pub fn write_output<W: Write>(output: &mut W, bytes: &[u8]) -> Result<(), ToolFault>
     ensures ok { OnOk result (Appends (W.contents output.old) (W.contents output.new) bytes.now) }
     ensures err { IfErr result (λ fault. fault ≡ ToolFault.WriteFailed) }

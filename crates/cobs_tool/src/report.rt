@@ -42,8 +42,8 @@ pub fn report_of(alloc: Global, stream: &[u8]) -> Result<String, AllocError>
                 }
                 return Ok(text);
             }
-            // A read of bytes in memory never fails, and a stream of at most 1 MiB, 64 bytes per read, never needs the
-            // 65,536 reads of one call.
+            // A read of bytes in memory never fails. A call fails after 65,536 reads, but each read returns 64 bytes as
+            // long as there are so many, so a stream of at most 1 MiB ends after at most 16,385 reads.
             Err(_) => unreachable!(),
         }
     }

@@ -166,7 +166,7 @@ fn rows_are_written(rt: HostRuntime) {
 }
 
 /// Runs the row's mode, and makes the read with the number `failing` fail with this fault. A mode makes one read for
-/// each byte, and one more for the end. If there are too few reads for the number, no read fails.
+/// each byte, and one more for the end. If the mode makes too few reads, no read fails.
 fn check_read(rt: &impl Abort, alloc: Global, row: &Row, fault: ErrorKind, failing: usize) {
     let (mode, bytes, written) = row;
     let mut input = ByteReader {
@@ -211,8 +211,8 @@ fn each_read_may_fail(rt: HostRuntime) {
     check_reads(&rt, rt.alloc(), &ROWS);
 }
 
-/// Runs the row's mode, and makes the write with the number `failing` fail. If there are too few writes for the number,
-/// no write fails. If `fails_to_flush` is set, each flush fails too.
+/// Runs the row's mode, and makes the write with the number `failing` fail. If the mode makes too few writes, no write
+/// fails. If `fails_to_flush` is set, each flush fails too.
 fn check_write(rt: &impl Abort, alloc: Global, row: &Row, failing: usize, fails_to_flush: bool) {
     let (mode, bytes, written) = row;
     let mut input = *bytes;
@@ -271,8 +271,8 @@ fn check_limit(rt: &impl Abort, alloc: Global, mode: &Mode, zeros: &[u8], count:
 
 #[test]
 fn input_has_a_limit(rt: HostRuntime) -> Result<(), Fail> {
-    // The frame of 1 MiB of zeros has 1,048,577 bytes, and a zero follows it. `show` writes three characters for each of
-    // these bytes: two digits, and a space or the newline. For `decode`, zeros are no piece.
+    // The frame of 1 MiB of zeros has 1,048,577 bytes, and a zero follows it. `show` writes three characters for each
+    // of these bytes: two digits, and a space or the newline. For `decode`, a stream of zeros has no pieces.
     let zeros = vec![in rt.alloc(); 0u8; 1_048_577]?;
     check_limit(&rt, rt.alloc(), &Mode::Show, &zeros, 3_145_734);
     check_limit(&rt, rt.alloc(), &Mode::Encode, &zeros, 1_048_578);

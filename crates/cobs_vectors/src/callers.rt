@@ -1,7 +1,8 @@
 //! Callers whose contracts are proved only from the public contracts of `cobs`.
 //!
 //! No test runs these functions. The prover derives the contract of each function from the clauses of the calls that it
-//! makes. So a clause that says too little for its users is noticed here.
+//! makes. So a clause that says too little for its users is noticed here. A call of a law does nothing when it runs,
+//! but the proof of the caller can use what the law states.
 ghost use Rattle.std.specs.Prelude.{◌≡◌, ◌≢◌, ◌≤◌, ◌<◌, ◌+◌, ◌^◌, ◌↔◌, ◌∷◌, ◌++◌, [], All, length, take, drop, slice_index, slice_set, List, ℕ, None, Ok, Some, option_to_list, IfOk, IfSome, IsSomeAnd, IsTrue};
 ghost use Rattle.cobs.specs.Decode.{first_output, head_result, in_place, in_place_report, len_through_piece, result_of_decode};
 ghost use Rattle.cobs.specs.Overwritten.{message_in, overwritten, written_at};
@@ -76,8 +77,8 @@ pub fn decode_either_in_place(buffer: &mut [u8]) -> Result<DecodeReport, DecodeE
     }
 }
 
-/// Decodes a frame that is known to have 2 to 65 bytes. Returns true, because [`decode_short`] always decodes such a
-/// frame.
+/// Decodes a piece of 2 to 65 nonzero bytes, which may be broken. Returns true, because [`decode_short`] returns a
+/// result for each such piece.
 pub fn decode_known_short(frame: &[u8], dest: &mut [u8]) -> bool
     requires nonzero { HasNoZero frame.now }
     requires few { (2 ≤ length frame.now) × (length frame.now ≤ 65) }
@@ -88,16 +89,16 @@ pub fn decode_known_short(frame: &[u8], dest: &mut [u8]) -> bool
     decode_short(frame, dest).is_some()
 }
 
-/// Decodes a source that is one short frame, with or without a zero after it. If the function returns true, all bytes
-/// of the source were consumed: at most one byte follows the frame.
+/// Decodes a source that is one short piece, with or without a zero after it. If the function returns true, all bytes
+/// of the source were consumed: at most one byte follows the piece.
 pub fn decode_only_frame(source: &[u8], dest: &mut [u8]) -> bool
     ensures { IsTrue result → length source.now ≤ length (head source.now) + 1 }
 {
     decode_short(source, dest).is_some()
 }
 
-/// Decodes in place a frame that is known to have 2 to 65 bytes, and only whole blocks. Returns true, because
-/// [`decode_short_in_place`] always decodes such a frame.
+/// Decodes a frame of 2 to 65 bytes in place. Returns true, because [`decode_short_in_place`] returns a result for each
+/// such frame.
 pub fn decode_known_short_in_place(frame: &mut [u8]) -> bool
     requires nonzero { HasNoZero frame.old }
     requires few { (2 ≤ length frame.old) × (length frame.old ≤ 65) }
@@ -416,8 +417,8 @@ pub fn copy_of(report: &DecodeReport) -> DecodeReport
     }
 }
 
-/// Returns whether two reports are equal. They are equal exactly if their messages have the same length and they count
-/// the same number of consumed bytes.
+/// Returns whether two reports are equal. Two reports are equal exactly if the messages have the same length, and the
+/// same number of bytes was consumed.
 pub fn are_same_reports(first: &DecodeReport, second: &DecodeReport) -> bool
     ensures { IsTrue result ↔ ((parsed_size_of first.now ≡ parsed_size_of second.now)
         × (frame_size_of first.now ≡ frame_size_of second.now)) }

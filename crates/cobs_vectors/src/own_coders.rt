@@ -1,5 +1,5 @@
-//! Coders that a user could write, whose contracts are proved only from the laws, and an encoder whose state another
-//! program kept.
+//! Coders that a user could write. Their contracts are proved from the laws and from the public contracts of the calls
+//! that they make. One of them is an encoder that continues from a state that another program kept.
 ghost use Rattle.std.specs.Prelude.{◌≡◌, ◌≢◌, ◌≤◌, ◌<◌, ◌^◌, ◌↔◌, [], ◌∷◌, List, ℕ, length, take, IfOk, IsOk, IsTrue, None};
 ghost use Rattle.cobs.specs.Feed.{Feeds};
 ghost use Rattle.cobs.specs.FeedPiece.{TakesPiece};
@@ -158,7 +158,8 @@ pub fn feed_each(
     None
 }
 
-/// Takes a byte of a piece, and returns whether the bytes of the open message that the buffer then holds are `expected`.
+/// Takes a byte of a piece. Returns whether the message so far, which is then at the front of the buffer, is
+/// `expected`.
 pub fn take_and_compare(
     decoder: &mut UnbufferedDecoder,
     buffer: &mut [u8],

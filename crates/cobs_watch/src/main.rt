@@ -1,6 +1,7 @@
 //! Shows the frames of a live line.
 //!
-//! `cobs_watch` shows each piece of a stream of frames as soon as the piece's sentinel arrives. It prints one of these:
+//! `cobs_watch` shows each piece of a stream of frames as soon as the piece's sentinel arrives. For each piece, it
+//! prints one of these lines:
 //!
 //! - `message N`, with the N bytes of a message as hexadecimal digits
 //! - `broken N`, for a piece that breaks off inside a block and decodes to N bytes
@@ -10,10 +11,11 @@
 //! output; `cobs_watch --help` lists them. `cobs_watch send` reads lines, and sends each line as a frame, followed by
 //! the sentinel.
 //!
-//! At the end of the input, `unfinished` is printed if a piece has begun and no sentinel has ended it. The exit status
-//! is then 0. If a read or a write failed or memory ran out, the status is 1, and a line on standard error says so. If
-//! the arguments are wrong, the status is 2, and standard error has the usage. If nobody reads the output any more, the
-//! program ends with status 0.
+//! At the end of the input, the program prints `unfinished` if a piece has begun and no sentinel has ended it. It then
+//! exits with the status 0, or with 1 if `cobs_watch send` skipped a line that wasn't hexadecimal digits. If a read or
+//! a write failed or memory ran out, the status is 1, and a line on standard error says so. If the arguments are wrong,
+//! the status is 2, and standard error has the usage. If nobody reads the output any more, the program ends with status
+//! 0.
 #![tactic(auto)]
 
 ghost use Rattle.std.specs.Prelude.{◌≡◌, [], OnOk};
@@ -208,8 +210,8 @@ fn open_log(rt: &HostRuntime, path: &str) -> io::Result<File> {
     first.try_clone()
 }
 
-/// A line that can be opened: its path, the runtime to open it with, and the place for the error number of a failed
-/// read.
+/// A line that can be opened: its path, the runtime to open it with, and the cell in which the error number of a failed
+/// read is stored.
 #[derive(Drop)]
 struct Device<'a> {
     rt: &'a HostRuntime,

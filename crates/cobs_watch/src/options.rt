@@ -40,7 +40,7 @@ pub(crate) struct ShowTask<'a> {
     /// Whether dates are in the system's time zone.
     pub(crate) local: bool,
 
-    /// The path of the file that is shown; `None` for standard input.
+    /// The path of the file that is shown. Standard input has no path (`None`) or the path `-`.
     pub(crate) path: Option<&'a str>,
 
     /// Whether the file is opened again after a hang-up.
@@ -128,8 +128,8 @@ fn with_show_options<'a>(alloc: Global, command: Command<'a>) -> Result<Command<
     Ok(with_line(alloc, command)?.after_help(help::SHOW_EXAMPLES))
 }
 
-/// Adds the options for styles to the command. `json` excludes `number`, because each JSON object has the number of its
-/// piece.
+/// Adds the options for styles to the command. `json` excludes `number`, because the JSON object of each piece that has
+/// ended has the number of this piece.
 fn with_styles<'a>(alloc: Global, command: Command<'a>) -> Result<Command<'a>, Error> {
     let hexdump = style(alloc, "hexdump")?.short('x');
     let json = style(alloc, "json")?.short('j').conflicts_with("number")?;
@@ -142,8 +142,8 @@ fn with_styles<'a>(alloc: Global, command: Command<'a>) -> Result<Command<'a>, E
     Ok(command.arg(bytes)?.arg(bare_style(alloc, "pcap")?)?)
 }
 
-/// Adds the options for the number, the time and the colour of a piece, and for the decoded bytes of broken and too
-/// long pieces, to the command. The texts of `help.rt` name the possible values, so clap doesn't list them again.
+/// Adds to the command the options for the number, the time and the colour of a piece, and for the decoded bytes of
+/// broken and too long pieces. The texts of `help.rt` name the possible values, so clap doesn't list them again.
 fn with_columns<'a>(alloc: Global, command: Command<'a>) -> Result<Command<'a>, Error> {
     let time = option(alloc, "time", "CLOCK")
         .short('t')
@@ -273,7 +273,7 @@ fn show_task<'a>(
                 checksum: checksum_of(alloc, matches)?,
                 partial: matches.get_flag("partial"),
             },
-            // `number_of` already limits the length, but no clause of it says so.
+            // `number_of` already limits the length, but none of its clauses says so.
             length: length.min(MAX_LENGTH) as usize,
             sentinel: sentinel_of(alloc, matches)?,
             skip_first: matches.get_flag("skip-first"),

@@ -8,7 +8,7 @@ use cobs_live::crc::{Crc, Params};
 use cobs_live::shown::Filter;
 use std::alloc::Global;
 
-/// Returns an error about the command line. `message` is its text.
+/// Returns an error about the command line. `message` is the text of the error.
 pub(crate) fn wrong<T>(alloc: Global, message: &str) -> Result<T, Error>
     ensures error { IsErr result }
 {
@@ -175,7 +175,7 @@ fn sized(written: &Written) -> Option<Params>
         32 => 4,
         _ => return None,
     };
-    // A register has 32 bits, and `Params` has the polynomial and the initial value in the highest of them.
+    // A register has 32 bits. `Params` has the polynomial and the initial value in the highest bits of the register.
     let spare = 32 - 8 * size;
     let poly = u32::try_from(written.poly.unwrap_or(0)).ok()?;
     let init = u32::try_from(written.init.unwrap_or(0)).ok()?;

@@ -1,6 +1,6 @@
--- Lemmas on an encoder over a slice that takes one more byte. A zero closes the open block (`after-zero`), any other
--- byte joins it (`after-byte`), and the 254th byte fills it (`after-filled`), by `Reaches-zero`, `Reaches-join` and
--- `Reaches-full`. `law_16` states these steps.
+-- Lemmas on an encoder over a slice that takes one more byte. A zero closes the open block (`after-zero`, by
+-- `Reaches-zero`), any other byte joins it (`after-byte`, by `joined`), and the 254th byte fills it (`after-filled`, by
+-- `front-filled`). `law_16` states these steps.
 use Rattle.std.proofs.Common.{◌≡◌, ◌≢◌, ℕ, ◌+◌, ◌-◌, ◌<◌, ◌≤◌, true, false, List, [], ◌∷◌, ◌++◌, length, get_or, refl, ap, ◌∙◌, arith}
 use Rattle.std.proofs.Math.ListN.{set}
 use Rattle.std.proofs.lemmas.List.{length-set}
@@ -26,7 +26,8 @@ after-more {r = r} a bytes h nonzero long some =
     let k = length-ones (r.block.code - 1) in
     after-len h bytes some ∙ ap (λ n. r.block.index + n) (grind (arith, same_start, ones-nonzero))
 
--- the next bytes of the message are the source, whose frame fits the slice; its first byte is taken
+-- The next bytes of the message are the source, and the frame with these bytes fits the slice. The first byte of the
+-- source is taken.
 module _ {source slice : List ℕ} {r : Reached} {next : ℕ} (place : IsPlaceIn (length slice) r) (fits : end_after r source ≤ length slice) (some : 0 < length source) (at : next ≡ next_of r) where
   -- at the start, no byte of the source is encoded
   start : Reaches (start_with slice r source) slice 0 r.block.index next (λ _. Unit {0})
@@ -86,8 +87,8 @@ module _ {slice m : List ℕ} {r : Reached} (h : CobsEncoderAfter slice r m) (ro
 
 -- ROOM FOR A BYTE, GIVEN THE ENCODER'S PLAIN NUMBERS
 
--- the numbers of an encoder are a possible progress in a slice of n bytes, if its open block isn't full, and the next
--- byte's index is within the slice
+-- an encoder in a slice of n bytes can have these numbers if its open block isn't full and the index of the next byte
+-- is within the slice
 pub is-place : (e : UnbufferedEncoder) (n : ℕ) → e.taken ≤ 253 → e.index + e.taken + 1 < n → IsPlaceIn n (reached_by e)
 is-place e n short room = grind arith
 

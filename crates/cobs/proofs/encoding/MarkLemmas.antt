@@ -213,7 +213,7 @@ window-front {source} {old} {slice} {r} {r'} w last is =
 -- BYTES THAT ARE TAKEN WITHOUT A MASK
 
 -- The next n bytes of the source are zeros. The code of the open block was written, and n ones from `next` on. The ones
--- are the codes of the blocks that the zeros close and, at last, of the next open block.
+-- are the codes of the blocks that the zeros after the first one close and, at last, of the next open block.
 pub row-taken : {s : Start} {slice after : List ℕ} {read index next : ℕ} {P : Bool → Type 0} → Reaches s slice read index next P → next < index + 255 → whole_end s ≤ length slice → (n : ℕ)
     → 0 < n → read + n ≤ length s.source
     → take n (drop read s.source) ≡ replicate n 0 → after ≡ take next (set slice index (next - index)) ++ (replicate n 1 ++ drop (next + n) (set slice index (next - index)))

@@ -1,5 +1,6 @@
 -- Lemmas for `take_to_end`: zeros outside a piece are fed quietly (`quiet-zeros`), and a piece is open after bytes that
--- aren't zeros (`open-after`). By induction on the bytes.
+-- aren't zeros (`open-after`, by `stays-open`). The proofs of `quiet-zeros` and `stays-open` are by induction on the
+-- bytes.
 use Rattle.std.proofs.Common.{◌≡◌, ◌≢◌, ℕ, zero, suc, ◌<◌, ◌≤◌, true, false, List, [], ◌∷◌, length, take, refl, arith}
 use Rattle.std.proofs.lemmas.Bool.{ne_eqb, cases_Bool}
 use Rattle.std.proofs.lemmas.List.Elements.{All-head, All-tail}
@@ -30,7 +31,7 @@ stays-open [] buffer buffer' phase phase' none f begun = grind arith
 stays-open (byte ∷ bytes) buffer buffer' phase phase' none f begun =
     stays-open bytes _ buffer' _ phase' (All-tail (λ b. b ≢ 0) byte bytes none) f.1 (opened (length buffer) phase byte (grind arith))
 
--- after bytes that aren't zeros a piece is open, if one was open before or there is a byte
+-- after nonzero bytes that are fed quietly, a piece is open if one was open before or if there is a byte
 pub open-after : (bytes buffer buffer' : List ℕ) (phase phase' : Phase) → HasNoZero bytes → FeedsQuietly buffer phase bytes buffer' phase' → (phase ≡ Idle → 0 < length bytes) → phase' ≢ Idle
 open-after [] buffer buffer' Idle phase' none f some = grind arith
 open-after (byte ∷ bytes) buffer buffer' Idle phase' none f some =

@@ -88,7 +88,7 @@ EndsFirst-behind t {bytes} {behind} {n} {outcome} none w = record {
       grind (arith, stream_outcomes-append, append_assoc, unended-zero);
 }
 
--- THE FLAG OF THE READER FOR A BEGUN PIECE
+-- THE READER'S FLAG, WHICH SAYS WHETHER A PIECE HAS BEGUN
 
 -- whether a piece has begun in this phase
 not_idle : Phase → Bool
@@ -199,7 +199,7 @@ module _ {S : Type 0} {step : S → Read → S → Type 0} {from to : S} {reader
     result_says = grind (arith, given-push);
   }
 
-  -- WHERE THE SOURCE GIVES NO MORE
+  -- WHERE THE CALL ENDS, AND NO PIECE HAS ENDED
 
   -- if the reader keeps no byte, it is at the end of the stream so far, and its flag says whether a piece is unfinished
   -- there

@@ -77,11 +77,11 @@ piece-over {buffer₀} {buffer} {phase₀} bytes i (suc r) within some t =
     -- then the other r bytes follow, by induction
     subst (λ (k : ℕ). TakesPiece buffer₀ phase₀ (take k bytes) None buffer Overlong) (omega arith) (piece-over bytes (i + 1) r (omega arith) (All-tail (λ b. b ≢ 0) _ _ rest) one)
 
--- THE RUN OF A DECODER
-
 -- if a byte of the block is missing, or a byte of output is written, a piece has begun, so the phase is `Within`
 pub phase_with-begun : (full : Bool) (left count : ℕ) → 0 < left + count → phase_with full left count ≡ Within full left count
 phase_with-begun full left count h = grind arith
+
+-- THE BYTES AFTER THE OUTPUT
 
 -- nonzero bytes that are fed quietly don't make the output shorter, and don't change the bytes of the buffer after the
 -- output
@@ -94,8 +94,8 @@ quiet_rest (x ∷ xs) buffer buffer' phase phase' nz f = grind (arith, ne_eqb, c
 pub rest_kept : (xs buffer buffer' : List ℕ) (inner inner' : UnbufferedDecoder) (k : ℕ) → HasNoZero xs → FeedsQuietly buffer (phase_of inner) xs buffer' (phase_of inner') → inner'.written ≤ k → drop k buffer' ≡ drop k buffer
 rest_kept xs buffer buffer' inner inner' k nz f past = grind (arith, quiet_rest)
 
--- A decoder in place has read the bytes from index `read` to index `at`. If its output ends at `at` or before it, the
--- bytes from `at` on are as they were. No byte from `read` to `end` is a zero.
+-- A decoder in place has read the bytes from index `read` to index `at`, and no byte from `read` to `end` is a zero. If
+-- its output ends at `at` or before it, the bytes from `at` on are as they were.
 pub rest_read : (buffer buffer' : List ℕ) (inner inner' : UnbufferedDecoder) (read at end : ℕ) → read ≤ at → at ≤ end → HasNoZero (take (end - read) (drop read buffer))
     → FeedsQuietly buffer (phase_of inner) (take (at - read) (drop read buffer)) buffer' (phase_of inner') → inner'.written ≤ at → drop at buffer' ≡ drop (at - read) (drop read buffer)
 rest_read buffer buffer' inner inner' read at end order within nz f past =

@@ -64,7 +64,7 @@ impl<'a> CobsDecoder<'a> {
     /// - `Ok(Some(n))`: the byte was the zero after a whole frame, and the message is the slice's first `n` bytes.
     ///
     /// The bytes of the slice after the output are as they were. As long as the output of the piece fits the slice, the
-    /// byte has the same effect on the decoder's state as on a [`DecoderState`](crate::DecoderState).
+    /// fed byte changes the decoder's state in the same way as it changes a [`DecoderState`](crate::DecoderState).
     ///
     /// # Errors
     /// - `InvalidFrame`: the byte was a zero inside a block. `decoded_bytes` is the length of the piece's output, which

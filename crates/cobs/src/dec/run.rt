@@ -269,7 +269,7 @@ impl UnbufferedDecoder {
     ///   only this code. Such a code adds no byte to the output.
     /// - Otherwise, if the first bytes are rows of 32 blocks, each with the code 01, the step decodes up to seven of
     ///   these rows.
-    /// - In all other cases the step decodes a span.
+    /// - If none of these applies, the step decodes a span.
     #[inline(always)]
     fn take_part(&mut self, dest: &mut [u8], bytes: &[u8], sentinel: u8) -> usize
         requires going { self.old.too_long ≡ 0 }

@@ -13,7 +13,7 @@ use crate::error::DestBufTooSmallError;
 /// the slice begins with the frame of all bytes pushed so far, except for the code of the open block;
 /// [`finalize`](CobsEncoder::finalize) writes this code. The slice needn't be longer than the frame.
 ///
-/// The blocks are those of the paper by Cheshire and Baker; the calls are those of the Rust crate `cobs`.
+/// The frame consists of blocks, as in the paper by Cheshire and Baker. The calls are those of the Rust crate `cobs`.
 ///
 /// ```
 /// let mut dest = [170; 7];
@@ -62,13 +62,13 @@ impl<'a> CobsEncoder<'a> {
 
     /// Encodes the next bytes of the message.
     ///
-    /// An empty push always succeeds, and changes nothing. A push doesn't change the bytes of the slice after the frame
-    /// of all bytes pushed so far, including `bytes`.
+    /// An empty push always succeeds, and changes nothing. A push writes only within the frame of all bytes pushed so
+    /// far, including `bytes`. The bytes of the slice after this frame stay unchanged.
     ///
     /// # Errors
-    /// `DestBufTooSmallError` exactly if the encoded frame of all bytes pushed so far, including `bytes`, is longer
-    /// than the slice. Then neither the encoder nor the slice has changed, so the caller may end the message, or push
-    /// fewer bytes. (This guarantee is this library's own.)
+    /// Returns `DestBufTooSmallError` if and only if the encoded frame of all bytes pushed so far, including `bytes`,
+    /// is longer than the slice. Then neither the encoder nor the slice has changed, so the caller may end the message,
+    /// or push fewer bytes. The Rust crate `cobs` doesn't guarantee this.
     ///
     /// ```
     /// let mut dest = [170; 4];
@@ -95,8 +95,8 @@ impl<'a> CobsEncoder<'a> {
         self.encoder.push(self.dest, bytes)
     }
 
-    /// Ends the message, and returns the length of its encoded frame in bytes. The slice begins with that frame, and
-    /// every byte after the frame is as it was before [`new`](CobsEncoder::new).
+    /// Ends the message, and returns the length of its encoded frame in bytes. The slice then begins with that frame.
+    /// Every byte after the frame has the value that it had before [`new`](CobsEncoder::new) was called.
     ///
     /// ```
     /// let mut dest = [170; 3];
@@ -106,7 +106,8 @@ impl<'a> CobsEncoder<'a> {
     /// assert_eq!(rt; dest, [1, 1, 170]);
     /// ```
     pub fn finalize(self) -> usize
-        // `self.exit.0.now` is the content of the slice, the encoder's first field, when the call returns.
+        // The slice is the encoder's first field. So `self.exit.0.now` is the content of the slice when the call
+        // returns.
         ensures len { (m : List ℕ) → HasTaken self.entry m → result ≡ encoded_len m }
         ensures frame { (m : List ℕ) → HasTaken self.entry m → IsEncodedFrame (take result self.exit.0.now) m }
         ensures no_sentinel { (m : List ℕ) → HasTaken self.entry m → HasNoZero (take result self.exit.0.now) }

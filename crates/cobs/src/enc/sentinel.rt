@@ -1,4 +1,4 @@
-//! Encoders that write frames for a sentinel other than 0, and frames between two sentinels.
+//! Functions that encode with a sentinel other than 0, and functions that write a sentinel before and after the frame.
 ghost use Rattle.std.specs.Prelude.{◌≡◌, ◌≤◌, ◌+◌, ◌↔◌, length, take, drop, IsOk, IfOk, OnErr};
 ghost use Rattle.cobs.specs.Length.{encoded_len};
 ghost use Rattle.cobs.specs.Grammar.{HasNoZero};
@@ -9,16 +9,17 @@ use crate::error::DestBufTooSmallError;
 use cobs_bytes::lanes::xor_bytes;
 use cobs_bytes::window::has_vectors;
 
-/// Writes the encoded frame of `source` for `sentinel` to the front of `dest`, and returns the frame's length in bytes.
+/// Writes the encoded frame of `source` to the front of `dest`, with `sentinel` as the sentinel. Returns the frame's
+/// length in bytes.
 ///
-/// The frame is the one that [`encode`] writes, with each byte XORed with `sentinel`, so no byte of the frame is the
+/// The frame is the one that [`encode`] writes, with each byte XORed with `sentinel`. So no byte of the frame is the
 /// sentinel. No sentinel is written before or after the frame, and the bytes of `dest` after the frame stay as they
 /// were.
 ///
-/// Precondition: the frame fits `dest`. For the message's length, [`max_encoding_length`](crate::max_encoding_length)
-/// returns a length of `dest` that is always enough.
+/// Precondition: the frame fits `dest`. The frame always fits if the length of `dest` is at least
+/// [`max_encoding_length(source.len())`](crate::max_encoding_length).
 ///
-/// Cheshire and Baker's paper describes frames for a sentinel other than 0.
+/// Cheshire and Baker's paper describes frames with a sentinel other than 0.
 ///
 /// ```
 /// let mut dest = [170; 6];
@@ -38,12 +39,13 @@ pub fn encode_with_sentinel(source: &[u8], dest: &mut [u8], sentinel: u8) -> usi
     len
 }
 
-/// Writes the encoded frame of `source` for `sentinel` to the front of `dest`, as [`encode_with_sentinel`] does, if the
-/// frame fits `dest`. Returns the frame's length in bytes.
+/// Writes the encoded frame of `source` to the front of `dest`, as [`encode_with_sentinel`] does, if the frame fits
+/// `dest`. Returns the frame's length in bytes.
+///
+/// The Rust crate `cobs` has no such call.
 ///
 /// # Errors
-/// `DestBufTooSmallError` exactly if the frame is longer than `dest`. Then no byte of `dest` has changed. (This
-/// guarantee is this library's own.)
+/// Returns `DestBufTooSmallError` if and only if the frame is longer than `dest`. Then no byte of `dest` has changed.
 ///
 /// ```
 /// let mut dest = [170; 3];
@@ -81,8 +83,8 @@ pub fn try_encode_with_sentinel(
 /// The bytes of `dest` after the second 0 stay as they were. As in the Rust crate `cobs`, one sentinel is before the
 /// frame and one is after it.
 ///
-/// Precondition: the frame and both sentinels fit `dest`. A `dest` that is two bytes longer than the result of
-/// [`max_encoding_length`](crate::max_encoding_length) is always long enough. If you don't know whether the frame and
+/// Precondition: the frame and both sentinels fit `dest`. They always fit if the length of `dest` is at least
+/// [`max_encoding_length(source.len())`](crate::max_encoding_length) plus 2. If you don't know whether the frame and
 /// both sentinels fit, call [`try_encode_including_sentinels`], which returns an error if they don't fit.
 ///
 /// ```
@@ -110,8 +112,8 @@ pub fn encode_including_sentinels(source: &[u8], dest: &mut [u8]) -> usize
 /// does, if all of them fit. Returns how many bytes it wrote.
 ///
 /// # Errors
-/// `DestBufTooSmallError` exactly if the frame and both sentinels together are longer than `dest`. Then no byte of
-/// `dest` has changed. (This guarantee is this library's own.)
+/// Returns `DestBufTooSmallError` if and only if the frame and both sentinels together are longer than `dest`. Then no
+/// byte of `dest` has changed. The Rust crate `cobs` doesn't guarantee this.
 ///
 /// ```
 /// let mut dest = [170; 4];

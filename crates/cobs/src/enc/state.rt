@@ -7,7 +7,7 @@ use std::alloc::AllocError;
 use std::marker::Model;
 
 /// The change that a byte of the message makes to the encoded output. Indices count bytes from the start of the output.
-/// The names of the variants are those of the crate `cobs`.
+/// The variants have the same names as in the Rust crate `cobs`.
 ///
 /// ```
 /// let mut state = EncoderState::default();
@@ -63,7 +63,8 @@ impl Model for EncoderState {
     ghost use Rattle.std.specs.Prelude.{◌<◌};
     ghost use Rattle.cobs.specs.OpenBlock.{OpenBlock};
 
-    // Contracts describe an `EncoderState` by an `OpenBlock`, a record of its two numbers. The code is from 1 to 254.
+    // In contracts, an `EncoderState` is an `OpenBlock`: a record of the open block's index and code. The code is from
+    // 1 to 254.
     ghost Value = { OpenBlock };
 
     ghost view = { λ s. record { index = s.code_index; code = s.code } };
@@ -75,8 +76,8 @@ impl Default for EncoderState {
     // The state that generic code gets from `default`.
     ghost is_default = { λ state. state ≡ record { index = 0; code = 1 } };
 
-    /// Makes the state before the first byte of a message. The open block begins with the placeholder at index 0, and
-    /// has no other bytes.
+    /// Makes the state that an encoder has before the first byte of a message. The open block consists of only the
+    /// placeholder at index 0.
     ///
     /// ```
     /// let state = EncoderState::default();
@@ -122,8 +123,8 @@ impl Clone for EncoderState {
 }
 
 impl EncoderState {
-    /// Returns whether another byte can be pushed. The result is true if, for every value of this byte, the index at
-    /// which a block after it would begin fits a `usize`. (This function is this library's own.)
+    /// Returns whether another byte can be pushed, whatever its value is. It can be pushed if the index of a block that
+    /// begins after this byte would fit a `usize`. The Rust crate `cobs` has no such call.
     ///
     /// ```
     /// assert!(rt; EncoderState::default().can_push());
@@ -187,7 +188,7 @@ impl EncoderState {
 
 /// Returns the code of a full block.
 // The function is marked cold, because compilers assume that a branch to a cold function is rarely taken. Without this
-// mark, compilers would compute the results for all three cases and choose one without a branch, which is slower.
+// mark, compilers compute the results of all three cases, and then choose one of them without a branch. That is slower.
 #[cold]
 #[inline(never)]
 fn full_code() -> u8

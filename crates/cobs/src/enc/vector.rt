@@ -1,4 +1,4 @@
-//! Encoders that return a frame as a new vector.
+//! Functions that encode a message, and return the frame as a new vector.
 ghost use Rattle.std.specs.Prelude.{◌<◌, ◌+◌, ◌^◌, length, IfOk};
 ghost use Rattle.cobs.specs.Grammar.{HasNoZero, IsEncodedFrame};
 ghost use Rattle.cobs.specs.Length.{max_encoded_len};
@@ -11,11 +11,11 @@ use std::alloc::{AllocError, Global};
 
 /// Returns the encoded frame of `source` as a vector, without a sentinel before or after the frame.
 ///
-/// Precondition: [`max_encoding_length`](crate::max_encoding_length) of the message's length fits a `usize`. Memory is
-/// allocated once, for the longest frame that a message of this length can have.
+/// Precondition: [`max_encoding_length(source.len())`](crate::max_encoding_length) fits a `usize`. Memory is allocated
+/// once, for the longest frame that a message of this length can have.
 ///
 /// # Errors
-/// `AllocError` if memory runs out.
+/// Returns `AllocError` if memory runs out.
 ///
 /// ```
 /// let frame = encode_vec(alloc, b"hello")?;
@@ -35,12 +35,12 @@ pub fn encode_vec(alloc: Global, source: &[u8]) -> Result<Vec<u8>, AllocError>
 
 /// Returns a vector that contains a 0, the encoded frame of `source`, and another 0.
 ///
-/// Precondition: [`max_encoding_length`](crate::max_encoding_length) of the message's length, plus 2, fits a `usize`.
-/// Memory is allocated once, for both sentinels and the longest frame that a message of this length can have. The
-/// returned vector contains only the frame of `source` and both sentinels. (This guarantee is this library's own.)
+/// Precondition: [`max_encoding_length(source.len())`](crate::max_encoding_length) plus 2 fits a `usize`. Memory is
+/// allocated once, for both sentinels and the longest frame that a message of this length can have. The returned vector
+/// contains nothing but the frame of `source` and both sentinels. The Rust crate `cobs` doesn't guarantee this.
 ///
 /// # Errors
-/// `AllocError` if memory runs out.
+/// Returns `AllocError` if memory runs out.
 ///
 /// ```
 /// let delimited = encode_vec_including_sentinels(alloc, b"hello")?;
@@ -58,14 +58,14 @@ pub fn encode_vec_including_sentinels(alloc: Global, source: &[u8]) -> Result<Ve
     Ok(delimited)
 }
 
-/// Returns the encoded frame of `source` for `sentinel` as a vector. This frame is the one that [`encode_vec`] returns,
-/// with each byte XORed with `sentinel`.
+/// Returns the encoded frame of `source` as a vector, with `sentinel` as the sentinel. This frame is the one that
+/// [`encode_vec`] returns, with each byte XORed with `sentinel`.
 ///
-/// Precondition: [`max_encoding_length`](crate::max_encoding_length) of the message's length fits a `usize`. Memory is
-/// allocated once, for the longest frame that a message of this length can have.
+/// Precondition: [`max_encoding_length(source.len())`](crate::max_encoding_length) fits a `usize`. Memory is allocated
+/// once, for the longest frame that a message of this length can have.
 ///
 /// # Errors
-/// `AllocError` if memory runs out.
+/// Returns `AllocError` if memory runs out.
 ///
 /// ```
 /// let frame = encode_vec_with_sentinel(alloc, &[10, 11, 0, 12], 255)?;

@@ -1,5 +1,6 @@
-//! Laws for your own encoder or decoder: the length of a frame block by block, the states of an encoder and of a
-//! decoder after each byte, and the kind of a frame. `law_18` states the results of the streaming decoders for a frame.
+//! Laws for an encoder or a decoder of your own. They describe the length, the kind and the output of a frame block by
+//! block, and the states of an encoder and of a decoder after each byte. `law_18` states what the streaming decoders
+//! return for a frame, and `law_21` is about a loop over the pieces of a stream.
 ghost use Rattle.std.specs.Prelude.{◌≡◌, ◌≢◌, ◌↔◌, ◌<◌, ◌+◌, ℕ, List, [], ◌∷◌, ◌++◌, length, drop, false, Some, None};
 ghost use Rattle.cobs.specs.Feed.{DecoderAfter, Idle, Phase};
 ghost use Rattle.cobs.specs.FeedPiece.{TakesPiece, outcome_at};
@@ -18,10 +19,10 @@ ghost use Rattle.cobs.specs.declared.dec.frame_decoder.PieceEnd.{PieceEnd};
 /// - 254 nonzero bytes, if other bytes follow them
 /// - the whole message, if the message consists of up to 254 nonzero bytes
 ///
-/// If nonzero bytes at the front of a message are replaced by as many other nonzero bytes, the length of the encoded
-/// frame stays the same.
+/// If nonzero bytes at the front of a message are replaced with the same number of other nonzero bytes, the length of
+/// the encoded frame doesn't change.
 ///
-/// So an encoder can decide with one pass over the message, before it writes a byte, whether the frame fits.
+/// So before an encoder writes a byte, it can find out with one pass over the message whether the frame fits.
 ///
 /// ```
 /// fn encode_short(message: &[u8], dest: &mut [u8]) -> usize
@@ -46,17 +47,17 @@ pub fn law_15()
 
 /// An encoder of your own, byte by byte.
 ///
-/// The encoder writes to a slice. At first the message so far is empty. The encoder appends a nonzero byte to the open
-/// block. A zero ends the open block, and the 254th byte of a block fills it; in both cases the encoder writes the
-/// block's code. At the end of the message the encoder writes the code of the open block, unless the last block is
-/// full.
+/// The encoder writes to a slice. At first, it has taken no byte of the message. The encoder appends a nonzero byte to
+/// the open block. A zero ends the open block, and the 254th nonzero byte of a block fills the block. In both cases,
+/// the encoder writes the block's code. At the end of the message, the encoder writes the code of the open block,
+/// unless the last block is full.
 ///
 /// Suppose that the encoder has taken some bytes of the message, perhaps none, and that at least one more byte is to
 /// come. Then the length of the encoded frame of the whole message is the sum of two numbers. The first number is the
-/// index of the open block. The second number is the length of the encoded frame of another message. That message
+/// index of the open block. The second number is the length of the encoded frame of another message. This other message
 /// consists of the bytes that the open block has after its code, followed by the bytes that are still to come. The
-/// clause `goes_on` states this sum, but with a list `a` in place of the bytes after the open block's code: `a` may be
-/// any list of as many nonzero bytes.
+/// clause `goes_on` states this sum, but with a list `a` instead of the bytes after the open block's code: `a` may be
+/// any list of the same number of nonzero bytes.
 ///
 /// So an encoder of your own that writes blocks in this way writes the frames that [`encode`](crate::encode) writes.
 ///
@@ -85,15 +86,15 @@ pub fn law_16()
 
 /// A decoder of your own, byte by byte.
 ///
-/// The file `specs/Step.antt` defines a step for every phase of a decoder and every byte. This step meets the contract
-/// of `feed` (clause `step`). As long as the output of the piece fits the buffer, this step changes the state of a
-/// decoder in the same way as `feed` of the same byte changes a [`DecoderState`](crate::DecoderState) (clause
-/// `by_table`).
+/// The file `specs/Step.antt` defines a step for every phase of a decoder and every byte. The clause `step` says that
+/// this step meets the contract of `feed`. The clause `by_table` says that this step changes a decoder's state in the
+/// same way as the call `feed` of [`DecoderState`](crate::DecoderState) does for the same byte, as long as the output
+/// of the piece fits the buffer.
 ///
 /// Consider a loop that feeds bytes one by one, and stops after the zero that ends the first piece, or after the last
 /// byte if no piece ends. This loop has the same result as one call of `feed_piece`.
 ///
-/// So a decoder of your own that makes these steps decodes as the streaming decoders do.
+/// So a decoder of your own that makes these steps decodes in the same way as the streaming decoders.
 ///
 /// ```
 /// fn feed_one(decoder: &mut UnbufferedDecoder, buffer: &mut [u8], byte: u8)
@@ -119,8 +120,8 @@ pub fn law_17()
 
 /// Streaming decoders return the message of each frame, and no other message.
 ///
-/// Assume that the buffer has room for the message of a frame. Each of these calls returns the length of the message,
-/// and leaves the message at the front of the buffer:
+/// Assume that the buffer has room for the message of a frame. Then each of these calls returns the length of the
+/// message, and leaves the message at the front of the buffer:
 ///
 /// - `feed` of a zero, after all bytes of the frame have been fed
 /// - `feed_piece` of the frame, a zero and any further bytes, if the decoder was idle; the call stops after the zero
@@ -151,12 +152,12 @@ pub fn law_18()
 
 /// The kind of a frame, block by block.
 ///
-/// A canonical frame is the frame that encoders write for its message. A single block is a canonical frame. A block
-/// followed by further bytes is a frame exactly if the further bytes are a frame. The whole frame is canonical exactly
-/// if the further bytes are a canonical frame, with one exception: a full block followed by only the block 01 isn't
-/// canonical. Bytes aren't a frame if there are fewer of them than the first code says.
+/// A frame is canonical if it is the frame that encoders write for its message. A single block is a canonical frame. A
+/// block followed by further bytes is a frame if and only if the further bytes are a frame. This frame is canonical if
+/// and only if the further bytes are a canonical frame, with one exception: a full block followed by nothing but the
+/// lone block `01` isn't canonical. If there are fewer bytes than the first code says, the bytes aren't a frame.
 ///
-/// So if your own reader goes from code to code, it can find out whether the bytes are a frame, and which kind of frame
+/// So a reader of your own that goes from code to code can find out whether bytes are a frame, and what kind of frame
 /// they are.
 ///
 /// ```
@@ -184,12 +185,12 @@ pub fn law_19()
 ///
 /// A piece is whole if its last block is complete. The kept output of a piece is its output without the bytes of an
 /// incomplete last block. A single block is whole, and its output is its bytes without the code. A piece that consists
-/// of a block and further bytes is whole exactly if the further bytes are whole. The kept output of this piece is the
-/// output of the block, then a zero unless the block is full, and then the kept output of the further bytes. If a piece
-/// has fewer bytes than its first code says, it isn't whole, and its kept output is empty. The kept output of a whole
-/// piece is its output.
+/// of a block and further bytes is whole if and only if the further bytes are whole. The kept output of this piece
+/// consists of the output of the block, a zero unless the block is full, and the kept output of the further bytes. If a
+/// piece has fewer bytes than its first code says, it isn't whole, and its kept output is empty. The kept output of a
+/// whole piece is its output.
 ///
-/// So if your own decoder goes from code to code, it can write the bytes that
+/// So a decoder of your own that goes from code to code can write the bytes that
 /// [`decode_in_place`](crate::decode_in_place) writes.
 ///
 /// ```
@@ -217,11 +218,11 @@ pub fn law_20()
 
 /// A loop over the pieces of a stream.
 ///
-/// Assume that an idle decoder decodes the first piece of a stream with `feed_piece`. The rest of the stream begins
-/// after the zero that ends this piece. Then the outcomes of the stream are the outcome of the first piece, followed by
-/// the outcomes of the rest. The unended bytes of a stream are the bytes after its last zero, or all bytes if it has no
-/// zero. The whole stream has the same unended bytes as the rest. If no piece ends, the stream has no outcome, and the
-/// unended bytes have been fed to the decoder.
+/// Assume that an idle decoder decodes the first piece of a stream with `feed_piece`. The *rest* of the stream is the
+/// bytes after the zero that ends this piece. The outcomes of the stream are the outcome of the first piece, followed
+/// by the outcomes of the rest. The unended bytes of a stream are the bytes after its last zero, or all bytes if it has
+/// no zero. The whole stream has the same unended bytes as the rest. If no piece ends, the stream has no outcome, and
+/// the unended bytes have been fed to the decoder.
 ///
 /// So the invariant of a loop over `feed_piece` is one equation: the outcomes found so far, followed by the outcomes of
 /// the remaining bytes, are the outcomes of the stream.

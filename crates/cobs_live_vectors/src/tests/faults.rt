@@ -128,8 +128,8 @@ fn a_failed_write_ends_a_run(rt: HostRuntime) -> Result<(), Fail> {
     Ok(())
 }
 
-/// Opens a line with these bytes. Every second attempt to open it succeeds, three attempts in all: two lines break
-/// after 8 bytes, and the third line has nothing to read yet.
+/// Opens a line with these bytes. Only the second, fourth and sixth attempt to open it succeed. The first two of these
+/// lines break after 8 bytes, and the third has nothing to read yet.
 #[derive(Drop)]
 struct Plug<'a> {
     bytes: &'a [u8],
@@ -161,6 +161,7 @@ fn a_line_is_opened_again_after_a_hang_up(rt: HostRuntime) -> Result<(), Fail> {
     let mut output = BufWriter::new(alloc, Vec::new(alloc))?;
     let shown = show(alloc, &mut input, &mut output)?;
     assert_eq!(rt; shown, Err(WatchFault::ReadFailed));
+    // After a hang-up the bytes up to the first zero are skipped, so the frame `\x03b\x00` isn't shown.
     assert_eq!(rt;
         output.get_ref().as_slice(),
         b"message 1 61\nunfinished\nhung up\nmessage 2 6869\nunfinished\nhung up\n\
@@ -170,7 +171,7 @@ fn a_line_is_opened_again_after_a_hang_up(rt: HostRuntime) -> Result<(), Fail> {
     Ok(())
 }
 
-/// A frame; the line may hang up at each of its bytes.
+/// A frame. Before each of its bytes, the line hangs up or a read fails.
 const CUT: &[u8] = b"\x03ab\x05cdef\x00";
 
 /// The text for a hang-up, by style: first if no frame had begun, and then if a frame had begun. `Raw`, `Bytes` and
@@ -257,7 +258,8 @@ fn a_frame_that_a_failed_read_cuts_is_no_message(rt: HostRuntime) -> Result<(), 
                 &mut Vec::new(alloc),
             );
             assert_eq!(rt; shown, Err(WatchFault::ReadFailed));
-            // After a failed read only `unfinished` is shown, which is the text for a hang-up without `hung up`.
+            // After a failed read, `hung up` isn't shown. So the text is the one for a hang-up (`begun`) without its
+            // end (`idle`), and it is empty if no frame had begun.
             let unfinished = if cut == 0 {
                 0
             } else {

@@ -71,6 +71,7 @@ fn checksums_are_those_of_the_catalogue(rt: HostRuntime) -> Result<(), Fail> {
         let highest_first = Checksum::new(crc.params(), false);
         let mut room = [0; 4];
         assert_eq!(rt; &*highest_first.sum(b"123456789", &mut room), bytes);
+        // The bytes alone are rejected, because they aren't the checksum of an empty message.
         assert!(rt; highest_first.checked(bytes).is_none());
     }
     Ok(())

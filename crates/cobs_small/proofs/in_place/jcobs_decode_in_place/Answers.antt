@@ -13,7 +13,8 @@ use Rattle.cobs_abi.specs.Answer.{result_by, head_end}
 use Rattle.cobs_abi.specs.Decode.{DecodesInPlace}
 use Rattle.cobs_small.proofs.in_place.jcobs_decode_in_place.Goals as goal
 
--- the call for an empty buffer meets `DecodesInPlace`: nothing is consumed, and the buffer stays empty
+-- the call for an empty buffer meets `DecodesInPlace`: nothing is consumed, and the buffer stays empty. (The definition
+-- drops the written bytes from the buffer; nothing is left of an empty list after that, by `drop_all`.)
 empty : (source : List ℕ) → length source ≡ 0 → DecodesInPlace source (result_by 0 (length source) (result_in_place [])) source
 unfolding head
 empty [] e = record { returned = refl; buffer = sym (drop_all _ [] (omega arith)) }

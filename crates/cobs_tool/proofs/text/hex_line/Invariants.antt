@@ -1,5 +1,4 @@
--- The line so far has the digits of the bytes before index `at`, with a space between each two of them (32 is the
--- space).
+-- The line so far has the two digits of each byte before index `at`, with a space between two bytes (32 is the space).
 use Rattle.std.proofs.Common.{◌≡◌, string_bytes, map, take}
 use Rattle.std.specs.List.{join_with_byte}
 use Rattle.cobs_tool.specs.Text.{hex_of}

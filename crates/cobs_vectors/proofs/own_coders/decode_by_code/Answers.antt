@@ -1,7 +1,7 @@
--- The rest of the piece, from the index `read` on, is a block and then more bytes if there are any (`Blocks`). So each
--- iteration adds the bytes of one block to the output, and the rest of the output depends only on the bytes after the
--- block (`whole_more`, `kept_more`), by `law_20`. The last block decides whether the piece is whole (`whole_end`,
--- `kept_end`).
+-- The rest of the piece, from the index `read` on, is a part of a block, exactly a block, or a block and more bytes
+-- (`Blocks`). If it is a block and more bytes, the iteration adds the bytes of this block to the output, and the rest
+-- of the output depends only on the bytes after the block (`whole_more`, `kept_more`), by `law_20`. The last block
+-- decides whether the piece is whole (`whole_end`, `kept_end`).
 -- `law_20`: The output of a piece, block by block.
 use Rattle.std.proofs.Common.{◌≡◌, ◌≢◌, ◌∙◌, ◌++◌, ◌∷◌, ◌+◌, ◌-◌, ◌<◌, ◌≤◌, ◌==◌, [], false, true, ℕ, List, length, take, drop, get_or, refl, sym, ap, arith, append_assoc, append-nil}
 use Rattle.std.proofs.lemmas.Bool.{eq-eqb, ne_eqb, true≢false}
@@ -71,7 +71,8 @@ returns-then-left-code-2-clause-kept c = grind (arith, kept_end, copied)
 -- the last block is whole: the piece reads as its output, and as no other message
 pub returns-then-left-code-2-clause-reads : goal.returns-then-left-code-2-clause-reads
 returns-then-left-code-2-clause-reads c = λ m.
-    let fits = c.type_inv.piece c.by_block.read in
+    -- the code at `read` is a byte, so it is below 256: `whole_end` needs this
+    let byte = c.type_inv.piece c.by_block.read in
     let piece : List ℕ = c.args.piece.now in
     -- the bytes from the index on are whole (`left`), so the piece is whole, and the vector has its output (`kept`)
     let left = whole_end piece c.by_block.read c.requires.1 c.by_block.invariant.within c.if-left-code.false (omega arith) c.law_20.ensures.one_whole c.if-left-code-2.true in

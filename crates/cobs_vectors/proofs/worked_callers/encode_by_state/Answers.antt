@@ -1,5 +1,5 @@
 -- After each byte the vector has the open output of the bytes so far, by the clause `carried` of `push`
--- (`by_byte-preserved`). Each result of `push` names an index, which is within the vector (`within`). At the end,
+-- (`by_byte-preserved`). If a result of `push` names an index, this index is within the vector (`within`). At the end,
 -- `finalize` names the index of the last code.
 use Rattle.std.proofs.Common.{◌≡◌, ◌<◌, ◌≤◌, ◌==◌, ℕ, Bool, true, false, List, [], ◌∷◌, ◌++◌, if◌then◌else◌, length, take, get_or, set, sym, ap, subst, arith, take_all, append_assoc}
 use Rattle.std.proofs.lemmas.List.{take_more}
@@ -9,7 +9,7 @@ use Rattle.cobs.specs.OpenBlock.{OpenBlock, IsOpenOutput, push_result, applied}
 use Rattle.cobs_vectors.proofs.worked_callers.encode_by_state.Goals.{in-AddSingle+in_ok-push-in-AddSingle, in-ModifyFromStartAndSkip+in_ok-push-in-ModifyFromStartAndSkip, in-ModifyFromStartAndPushAndSkip+in_ok-push-in-ModifyFromStartAndPushAndSkip+in_ok-push-in-ModifyFromStartAndPushAndSkip-2}
 use Rattle.cobs_vectors.proofs.worked_callers.encode_by_state.Goals as goal
 
--- the index that a result names
+-- the index that a result names, or 0 if it names none
 abbrev index_of : PushResult → ℕ
 index_of (AddSingle b) = 0
 index_of (ModifyFromStartAndSkip (i, c)) = i
@@ -19,7 +19,8 @@ index_of (ModifyFromStartAndPushAndSkip (i, c, b)) = i
 index_of-push_result : (state : OpenBlock) (byte : ℕ) → index_of (push_result state byte) ≤ state.index
 index_of-push_result state byte = go (byte == 0) (state.code == 254)
   where
-    -- the three results of `push_result`, for whether the byte is a zero, and whether the open block is full
+    -- the three results of `push_result`, for whether the byte is a zero, and whether a nonzero byte would fill the
+    -- open block
     go : (zero full : Bool) → index_of (if zero then ModifyFromStartAndSkip (state.index, state.code) else (if full then ModifyFromStartAndPushAndSkip (state.index, 255, byte) else AddSingle byte)) ≤ state.index
     go true full = omega arith
     go false true = omega arith

@@ -1,5 +1,5 @@
--- The vector is the output for the bytes before the index, and the state is the block that is then open
--- (`IsOpenOutput`).
+-- The vector is the output for the bytes that the loop has gone through (their number is `byte-index`), and the state
+-- is the block that is then open (`IsOpenOutput`).
 use Rattle.std.proofs.Common.{take}
 use Rattle.cobs.specs.OpenBlock.{IsOpenOutput}
 use Rattle.cobs_vectors.proofs.worked_callers.encode_by_state.Given as goal

@@ -23,7 +23,7 @@ pub take_in_place-requires-clause-nonzero : goal.take_in_place-requires-clause-n
 take_in_place-requires-clause-nonzero c = part-nonzero 0 _ _ _ c.requires.nonzero (omega arith)
 
 -- after the first call: h is the frame, `tail` is the number of its bytes except the last 254, and `new` is the buffer
--- now
+-- after this call
 module _ (c : After-take_in_place) where
   abbrev h : List ℕ
   h = take c.args.end c.args.buffer.now
@@ -52,10 +52,10 @@ module _ (c : After-take_in_place) where
       let nz = part-nonzero 0 (tail - 0) c.args.end c.args.buffer.now c.requires.nonzero (omega arith) in
       grind (arith, rest_read c.args.buffer.now new START c.take_in_place.new.self 0 tail tail (omega arith) (omega arith) nz c.take_in_place.ensures.fed c.take_in_place.ensures.behind)
 
-  -- `kept_len` gets the last 254 bytes of h from the buffer, and XORs them with 0
+  -- `kept_len` gets the last 254 bytes of h from the buffer, and XORs them with the sentinel 0, so they stay the same
   last : drop tail h ≡ xor_each 0 (take (c.args.end - tail) (drop tail new))
   last =
-      -- h is cut off at index `end`; its bytes from `tail` on are those of the buffer now (`rest`)
+      -- h is cut off at index `end`; its bytes from `tail` on are those of `new` (`rest`)
       let e : c.args.end ≡ tail + (c.args.end - tail) = omega arith in
       grind (arith, rest, xor_each-zero, drop-take)
 
@@ -89,8 +89,11 @@ returns c =
     let at = (goal.at.returns c).After-take_in_place in
     let n : ℕ = c.kept_len-len.result.0 in
     let e = c.kept_len-len.ensures in
+    -- the buffer has at least n bytes from `tail` on (`few`), so the second call gets the first n of them (`take-take`
+    -- in `next`)
     let few : n ≤ c.args.end - tail at = omega (arith, e.within, bytes-long at) in
-    -- the decoder's number `missing` is that of the open block of h; `kept` and `whole` of `kept_len` need this
+    -- after the first `tail` bytes of h, the decoder's number `missing` is the number of missing bytes of the open
+    -- block; `kept` and `whole` of `kept_len` need this
     let missing = missed (h at) _ _ c.take_in_place.new.self (tail at) c.requires.nonzero (fed at) in
     let next : FeedsQuietly (new at) (phase_of c.take_in_place.new.self) (take n (drop (tail at) (h at))) c.take_in_place-2.new.buffer (phase_of c.take_in_place-2.new.self)
     = grind (arith, last, rest, take-take, xor_each-zero) in

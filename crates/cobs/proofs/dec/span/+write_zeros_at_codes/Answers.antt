@@ -1,7 +1,7 @@
 -- By induction on the codes. The bytes of the first code's block are left as they are, a zero replaces the next code,
--- and a shorter list follows that code (`walked-next`). In the last block nothing is replaced (`walked-past`). The call
--- of the function itself needs three facts: its `dest` is shorter (`length-drop`), its code is below 256, and its code
--- and bytes contain no zero (`next-nonzero`).
+-- and the recursive call does the same in the shorter list after that code (`walked-next`). In the last block nothing
+-- is replaced (`walked-past`). The recursive call needs three facts: its `dest` is shorter (`length-drop`), its code is
+-- below 256, and its code and bytes contain no zero (`next-nonzero`).
 use Rattle.std.proofs.Common.{◌≢◌, ◌<◌, arith, length-drop}
 use Rattle.std.proofs.lemmas.List.Elements.{All-head}
 use Rattle.cobs.proofs.streaming.WalkLemmas.{behind-code, walked-next, walked-past, next-nonzero}

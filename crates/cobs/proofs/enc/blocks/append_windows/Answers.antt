@@ -1,5 +1,5 @@
--- Each turn takes one window: without a zero (`masked-end`), with zeros that are marked (`masked-step`), with zeros
--- only (`row-taken`), or up to a full block (`filled`).
+-- Each iteration takes one of these: a window without a zero (`masked-end`), a window whose zeros are marked
+-- (`masked-step`), one or more windows of zeros (`row-taken`), or the bytes that fill the open block (`filled`).
 use Rattle.std.proofs.Common.{ℕ, ◌≡◌, refl, ◌≢◌, ◌<◌, ◌≤◌, ◌+◌, ◌-◌, min, arith, length, take, drop, length-drop}
 use lib.Count.{count_trailing_zeros}
 use Rattle.std.proofs.lemmas.Grind.{common_steps}
@@ -41,8 +41,8 @@ module _ (c : After-copy_at-window) where
   abbrev first : ℕ
   first = c.by_window.next + lowest zeros
 
-  -- if the first zero comes before the open block is full, its place gets a code; the mask without this zero describes
-  -- the window
+  -- If the first zero comes before the open block is full, it closes this block, whose code is then written. The place
+  -- of this zero becomes the place of the next code, and the mask without this zero describes the window.
   coded : zeros ≢ 0 → first - c.by_window.index < 255
       → IsMasked start c.by_window.read 32 c.by_window.next (without_lowest zeros) first (set c.copy_at-window.new.dest c.by_window.index (first - c.by_window.index))
   coded some near = masked-step (masked-start copied (omega arith)) some
@@ -78,14 +78,15 @@ row c w =
     let fits = w.copied.room in
     let long = length-drop c.by_window.read c.args.source.now in
     let n = length-chunk c.by_window.read 32 c.args.source.now w.copied.inside in
-    -- the window has only zeros (`zeros`), so the first code is written at the place of the open block's code (`first`,
-    -- `code`)
+    -- the window has only zeros (`zeros`), so its first zero is at `next` (`first`), and the code of the open block is
+    -- `next - index` (`code`)
     let zeros = (window_all (take 32 (drop c.by_window.read c.args.source.now)) (omega arith) (grind arith)).1 in
     let first : lowest c.copy_at-window.result ≡ 0 = grind arith in
     let code : c.by_window.next + lowest c.copy_at-window.result - c.by_window.index ≡ c.by_window.next - c.by_window.index = omega arith in
     let written = rw (take_rest c.args.source.now c.by_window.read, code) at c.write_codes_of_zeros-zeros.ensures in
     let some = written.some (omega arith) zeros in
-    -- `row-taken`: the n zeros close blocks, whose codes are the n ones that were written
+    -- `row-taken`: The first zero closes the open block. Each other zero closes a block that consists of its code 1. The
+    -- last of the n ones is at the place of the next block's code.
     (row-taken (w.copied.reaches) w.short fits c.write_codes_of_zeros-zeros.result some (omega arith) written.zeros written.written, some, omega arith)
 
 -- a window that has only zeros begins a row of zeros, which is taken
@@ -108,13 +109,14 @@ by_window-preserved c =
     let taken = masked-end (c.mark_zeros-index.ensures _ _ _ (coded (goal.at.by_window-preserved c).After-copy_at-window c.if-window-eq0.false (omega arith))) refl in
     grind arith
 
--- none of the tests in this iteration was true, so the window's first zero, or its end, comes after the open block is
--- full
+-- The test of whether the open block has room was false in this iteration, if the window has a zero and if it has none.
+-- So the window's first zero, or its end, comes after the open block is full.
 none-near : (c : Joined-window-eq0) → (c.copy_at-window.result ≢ 0 → lowest c.copy_at-window.result < 32)
     → c.by_window.index + 255 - c.by_window.next ≤ min (lowest c.copy_at-window.result) 32
 none-near c first = grind (arith, lowest-none)
 
--- the bytes before the window's first zero fill the open block, so the call ends after them
+-- the bytes before the window's first zero (all its bytes if it has none) fill the open block, so the call ends after
+-- them
 pub returns-in-by_window : goal.returns-in-by_window
 returns-in-by_window c =
     let at = goal.at.returns-in-by_window c in
@@ -123,8 +125,8 @@ returns-in-by_window c =
     let long = length-set c.copy_at-window.new.dest c.by_window.index 255 in
     record {
       within = omega arith;
-      -- `filled`: the code 255 closes the block; bytes are left after it, so `front-taken` allows a frame that ends in
-      -- it
+      -- `filled`: the code 255 closes the block, so the frame so far ends with a full block. `front-taken` allows this,
+      -- because bytes of the source are left.
       taken = front-taken (omega arith) (filled w none (omega arith)) (omega arith) (grind arith) (omega arith) c.encoder_at.ensures;
     }
 

@@ -1,5 +1,6 @@
--- Each byte closes the open block or joins it, by `Reaches-zero` and `joined`. The open block has room for all bytes of
--- the part, because a full one is closed before the part (`opened`). The last block is closed at the end, whether it is
+-- Each byte closes the open block or joins it, by `Reaches-zero` and `joined`. One iteration of the outer loop takes a
+-- part of the source, which has at most as many bytes as the open block has room for. There is room for at least one
+-- byte, because a full block is closed before the part (`opened`). The last block is closed at the end, whether it is
 -- full or not (`whole-frame`).
 use Rattle.std.proofs.Common.{length, ◌≡◌, ◌<◌, ◌+◌, ◌-◌, ◌∙◌, false, ℕ, List, drop, get_or, take, refl, arith, ◌≤◌, sym, inl, inr, append-nil}
 use Rattle.std.proofs.lemmas.List.{get_or-drop, get_or-take, drop-set-lt}
@@ -67,7 +68,8 @@ module _ {old source slice : List ℕ} {pos index next : ℕ} (some : 0 < length
 pub by_part-init : goal.by_part-init
 by_part-init c = whole-start (omega arith)
 
--- after a full block is closed, the open block has room for a byte; `0 < 0` is the `0 < i` of the inner loop's start
+-- After a full block is closed, the open block has room for a byte. The inner loop starts with i = 0, so the condition
+-- `0 < i` of its invariant is `0 < 0` here.
 opened : (c : After-min-len) → (c.if-next-index-eq-FULL_CODE.next < c.if-next-index-eq-FULL_CODE.index + 255)
     × Reaches (start c.args.dest.now c.args.source.now) c.if-next-index-eq-FULL_CODE.dest c.by_part.read c.if-next-index-eq-FULL_CODE.index c.if-next-index-eq-FULL_CODE.next (λ full. 0 < 0 → full ≡ false)
 opened c =
