@@ -30,8 +30,8 @@ pub enum PieceEnd {
 }
 
 impl PieceEnd {
-    /// Returns how a piece ended. `returned` is the result of `feed` for the zero after the piece. If no piece had begun
-    /// before the zero, the function returns `None`.
+    /// Returns how a piece ended. `returned` is the result of `feed` for the zero after the piece. If no piece had
+    /// begun before the zero, the function returns `None`.
     ///
     /// ```
     /// let mut decoder = UnbufferedDecoder::new();

@@ -111,8 +111,8 @@ impl UnbufferedDecoder {
     }
 
     /// Decodes `len` bytes that the caller has moved to the end of the output, that is, to index `written` of `dest`.
-    /// The caller ensures that there are 1 to 253 bytes, that none of them is a zero, and that no full block ends before
-    /// the last of them.
+    /// The caller ensures that there are 1 to 253 bytes, that none of them is a zero, and that no full block ends
+    /// before the last of them.
     #[inline(always)]
     pub(crate) fn take_moved(&mut self, dest: &mut [u8], len: usize)
         requires going { self.old.too_long ≡ 0 }

@@ -108,7 +108,8 @@ impl UnbufferedDecoder {
         // For a zero, which no caller should pass, the subtraction wraps.
         self.missing = byte.wrapping_sub(1);
         self.joint = joint_after(byte);
-        // `at` is greater than `room` only if the caller has passed another buffer, or has changed the decoder's numbers.
+        // `at` is greater than `room` only if the caller has passed another buffer, or has changed the decoder's
+        // numbers.
         at.min(room)
     }
 

@@ -231,8 +231,8 @@ impl UnbufferedDecoder {
         Some((last, taken + 1))
     }
 
-    /// Decodes the bytes before the first zero that ends a piece, and returns the index of this zero. If no piece ends in
-    /// `bytes`, decodes all bytes and returns their number. The caller ensures that there is at least one byte.
+    /// Decodes the bytes before the first zero that ends a piece, and returns the index of this zero. If no piece ends
+    /// in `bytes`, decodes all bytes and returns their number. The caller ensures that there is at least one byte.
     // This function isn't inlined, so that `feed_piece` doesn't have to save registers if the piece is short. The
     // result is only a number, because a number is returned in a register.
     #[inline(never)]
