@@ -79,11 +79,10 @@ REWORDED = {
     " piece so far. ": "",
     "[`decode_short`](crate::decode_short)": "`decode_short`",
     "[`len_to_zero`](crate::len_to_zero)": "`len_to_zero`",
-    " (This function is this library's own.)": "",
-    " (This guarantee is this library's own.)": "",
-    " (This type is this library's own.)": "",
-    " (The names of the variants are this library's own.)": "",
-    "(The trait is this library's own.)": "",
+    " The Rust crate `cobs` has no such call.": "",
+    " The Rust crate `cobs` doesn't guarantee this.": "",
+    " The Rust crate `cobs` has no such type.": "",
+    "The Rust crate `cobs` has no such trait.": "",
     "Precondition: the decoder is idle. A decoder is idle when it is new, after each reset, and after each zero.": "The decoder should"
     " be idle. A decoder is idle when it is new, after each reset, and after each zero. If the decoder\nisn't idle, the first outcome"
     " is that of the piece that the decoder has begun.",

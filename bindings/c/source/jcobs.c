@@ -168,8 +168,8 @@ static JCOBS_INLINE void jcobs_decoder_init(jcobs_decoder *decoder)
 
 /* ---- Encoding a whole message ---- */
 
-/* Returns the greatest overhead, in bytes, that the encoded frame of a message of message_len bytes can have. The
- * overhead of a frame is its length minus the length of its message. */
+/* Returns the greatest overhead, in bytes, that an encoded frame can have if its message has message_len bytes.
+ * The overhead of a frame is its length minus the length of its message. */
 static size_t jcobs_max_overhead(size_t message_len)
 {
     if (message_len == 0) {
@@ -187,7 +187,7 @@ size_t jcobs_max_length(size_t message_len)
 }
 
 /* Returns whether `spare` bytes are enough for the overhead of every message of `len` bytes, that is, whether
- * `len` is at most 254 times `spare`. For up to 254 bytes, one spare byte is always enough. */
+ * `len` is at most 254 times `spare`. If `len` is at most 254, one spare byte is enough. */
 static JCOBS_INLINE int jcobs_covers_overhead(size_t len, size_t spare)
 {
     return len <= JCOBS_FULL_BLOCK_BYTES || (len - len / 2 + spare - 1) / 128 < spare;
@@ -237,8 +237,8 @@ static JCOBS_INLINE int jcobs_has_room(unsigned char taken, const unsigned char 
  * the block is full. */
 static size_t jcobs_write_blocks(const unsigned char *message, size_t message_len, unsigned char *frame)
 {
-    /* The code of the open block belongs at `index`, and the next byte of the frame at `next`. The difference of
-     * these two indices is the code that the open block has so far. */
+    /* The code of the open block belongs at `index`, and the next byte of the frame at `next`. The difference
+     * between these two indices is the code that the open block has so far. */
     size_t index = 0;
     size_t next = 1;
     size_t read = 0;
@@ -358,7 +358,7 @@ static JCOBS_INLINE size_t jcobs_encoder_append_byte(jcobs_encoder *encoder, uns
 }
 
 /* Writes the code of the open block, unless the frame ends with a full block, and returns the frame's length.
- * Before the call, the byte in the code's place may have any value. */
+ * Before the call, the byte at the code's index may have any value. */
 static JCOBS_INLINE size_t jcobs_close_block(unsigned char *buffer, size_t buffer_size, const jcobs_encoder *encoder)
 {
     size_t index = encoder->index;
@@ -378,8 +378,8 @@ static size_t jcobs_write_in_place(unsigned char *buffer, size_t buffer_size, si
     size_t start = jcobs_max_overhead(message_len);
     jcobs_encoder encoder = JCOBS_ENCODER_INIT;
 
-    /* The frame of the bytes that were read so far ends, at the latest, at the index of the byte that was read
-     * last. So the frame never overwrites a byte that wasn't read yet. */
+    /* The frame of the bytes read so far never extends past the last byte that was read. So the frame never
+     * overwrites a byte that hasn't been read yet. */
     for (size_t taken = 0; taken < message_len; taken++) {
         unsigned char byte = buffer[start + taken];
         jcobs_encoder_append_byte(&encoder, buffer, byte);
@@ -474,8 +474,8 @@ static JCOBS_INLINE jcobs_piece jcobs_decode_piece(const unsigned char *source, 
             written++;
             missing--;
         } else {
-            /* `byte` is the code of the next block. A zero joins the two blocks, unless the block before is
-             * full. */
+            /* `byte` is the code of the next block. A zero joins the current block and the next block, unless
+             * the current block is full. */
             if (code != JCOBS_FULL_CODE) {
                 if (written == message_size) {
                     return jcobs_make_piece(JCOBS_END_TOO_LONG, 0, jcobs_find_end(source, source_len, at));
@@ -550,7 +550,7 @@ static JCOBS_APART jcobs_end jcobs_decode_blocks(unsigned char *buffer, size_t f
         size_t next = read + code;
         read++;
         /* The test of the inner loop is written at the end of the loop, because compilers that optimize for size
-         * don't move a test there. */
+         * don't move it there themselves. */
         if (read != next) {
             do {
                 buffer[written] = buffer[read];
@@ -622,7 +622,7 @@ static enum jcobs_kind jcobs_kind_by_blocks(const unsigned char *bytes, size_t l
         after_full = code == JCOBS_FULL_CODE;
         read += code;
     }
-    /* The loop returns at the last block, so it ends only if there are no bytes. */
+    /* The loop returns at the last block, so this line is reached only if there are no bytes. */
     return JCOBS_NOT_A_FRAME;
 }
 
@@ -663,9 +663,9 @@ static JCOBS_INLINE size_t jcobs_decoder_take_byte(jcobs_decoder *decoder, unsig
         return buffer_size;
     }
 
-    /* `written` is read only once, here; otherwise compilers would read it again after each write to the buffer.
-     * Each case writes its byte itself, because it is slower to choose the byte first and to write it in one
-     * place. */
+    /* `written` is read only once, here, because otherwise compilers would read it again after each write to the
+     * buffer. Each case writes its byte itself: it would be slower to choose the byte first and then to write it
+     * in one place. */
     size_t at = decoder->written;
 
     if (decoder->missing != 0) {
@@ -714,20 +714,20 @@ static JCOBS_INLINE jcobs_end jcobs_decoder_end_piece(jcobs_decoder *decoder, si
     }
     /* No byte of a block is missing here. If a piece has begun and its last block isn't full, `joint` isn't 0.
      * If a piece has begun and its last block is full, `written` isn't 0, because the bytes of that block were
-     * written. So if both are 0, no piece has begun. */
+     * written. So if `joint` and `written` are both 0, no piece has begun. */
     if (before.written == 0 && before.joint == 0) {
         return jcobs_make_end(JCOBS_END_NONE, 0);
     }
     return jcobs_make_end(JCOBS_END_MESSAGE, before.written);
 }
 
-/* Decodes bytes of a stream of frames for `sentinel`, one byte at a time. The function stops after the sentinel
- * that ends the first piece; if no piece ends, it decodes all bytes. */
+/* Decodes the next bytes of a stream, one byte at a time. The frames of the stream were encoded with `sentinel`.
+ * The function stops after the sentinel that ends the first piece. If no piece ends, it decodes all bytes. */
 static JCOBS_INLINE jcobs_piece jcobs_decoder_take_bytes(jcobs_decoder *decoder, unsigned char *buffer,
                                                          size_t buffer_size, const unsigned char *bytes, size_t len,
                                                          unsigned char sentinel)
 {
-    /* The loop changes `state`, a copy of the decoder, which stays in registers. If the loop changed the decoder
+    /* The loop changes `state`, a copy of the decoder that stays in registers. If the loop changed the decoder
      * itself, compilers would read the fields again after each byte that is written. */
     jcobs_decoder state = *decoder;
     size_t taken = 0;
@@ -878,7 +878,7 @@ static JCOBS_INLINE void jcobs_encoder_append_bytes(jcobs_encoder *encoder, unsi
             next++;
             left--;
         }
-        /* A zero ends the block, and so does its 254th byte. */
+        /* A zero ends the open block. The 254th nonzero byte of the block ends it too. */
         if (byte == 0 || left == 0) {
             buffer[index] = (unsigned char)(next - index);
             index = next;
@@ -891,7 +891,8 @@ static JCOBS_INLINE void jcobs_encoder_append_bytes(jcobs_encoder *encoder, unsi
 
     encoder->index = index;
     encoder->taken = (unsigned char)(code - 1);
-    /* If the open block has no byte, and the last byte isn't a zero, the last byte has filled a block. */
+    /* If the open block has only its code, and the last byte isn't a zero, then the last byte has filled a
+     * block. */
     encoder->full = code == 1 && bytes[len - 1] != 0 ? 1 : 0;
 }
 
@@ -952,8 +953,8 @@ static jcobs_answer jcobs_encoder_feed_byte(jcobs_encoder *encoder, unsigned cha
     size_t code = (size_t)encoder->taken + 1;
 
     /* An open block has a code of at most 254; the code is greater only if the caller has changed the encoder's
-     * numbers. The tests read the field `index` itself, not a copy, so that rustc sees that no index of the step
-     * is out of bounds. */
+     * numbers. The tests read the field `index` itself, not a copy of it, so that rustc sees that no index of
+     * the step is out of bounds. */
     if (code > JCOBS_FULL_BLOCK_BYTES || buffer_size < encoder->index || buffer_size - encoder->index <= code) {
         return jcobs_too_small_answer();
     }
@@ -981,8 +982,8 @@ static JCOBS_INLINE int jcobs_encoder_is_valid(const jcobs_encoder *encoder, siz
 }
 
 /* Ends the message, if the state is possible in a buffer of this size, and returns the length of its encoded frame
- * in bytes. The buffer begins with that frame, and the encoder is ready for the next message. Every byte after the
- * frame is as it was before this call. */
+ * in bytes. The buffer then begins with that frame, and the encoder is ready for the next message. Every byte
+ * after the frame is as it was before this call. */
 static jcobs_frame_length jcobs_encoder_close(jcobs_encoder *encoder, unsigned char *buffer, size_t buffer_size)
 {
     if (!jcobs_encoder_is_valid(encoder, buffer_size)) {

@@ -86,7 +86,7 @@ ENDS = {
 # every function. The words in backticks that are left are names of Rattle, which get their names in C. A name that could be read as
 # an ordinary word keeps its backticks.
 COMMENTS = {
-    "": [(" (This function is this library's own.)", ""), (" (This guarantee is this library's own.)", "")],
+    "": [(" The Rust crate `cobs` has no such call.", ""), (" The Rust crate `cobs` doesn't guarantee this.", "")],
     "UnbufferedDecoder::end": [(
         "and returns the result for this zero. `len` is the buffer's length.",
         "and returns how the piece ended. The buffer has buffer_size bytes.",
@@ -96,8 +96,8 @@ COMMENTS = {
         " ahead or copy slices, so its code is small, and it is fast for a few bytes.",
         "",
     ), (
-        "The fields are assigned one by one, because for an assignment of the whole decoder, rustc needs 24 bytes more for a push"
-        " on a Cortex-M4.",
+        "The fields are assigned one by one. If the whole decoder is assigned, rustc needs 24 bytes more for a push on a"
+        " Cortex-M4.",
         "",
     )],
     "UnbufferedDecoder::step": [(

@@ -1,5 +1,5 @@
 // Made by bindings/rust/translate.py from `crates/cobs/src/enc.rt`: change that file, and run it again.
-//! Encoding: from messages to frames.
+//! Encoding: the calls that turn messages into frames.
 
 pub(crate) mod blocks;
 pub(crate) mod each;
@@ -26,16 +26,16 @@ pub use unbuffered::UnbufferedEncoder;
 
 /// Writes the encoded frame of `source` to the front of `dest`, and returns the frame's length in bytes.
 ///
-/// The frame consists of blocks, as in Cheshire and Baker's paper. If the message ends in a run of nonzero bytes whose
-/// length is a positive multiple of 254, the message has two frames: the longer frame is the shorter frame followed by
-/// the byte `1`. This function writes the shorter frame (a choice of this library). No byte of the frame is the
+/// The frame consists of blocks, as in Cheshire and Baker's paper. A message that ends in a run of nonzero bytes has
+/// two frames if the length of this run is a positive multiple of 254. The longer frame is the shorter one followed by
+/// the byte `1`. This function writes the shorter frame; this is the library's own choice. No byte of the frame is the
 /// sentinel 0, and no sentinel is written before or after the frame. The bytes of `dest` after the frame stay as they
 /// were.
 ///
-/// Precondition: the frame fits `dest`. For the message's length, [`max_encoding_length`](crate::max_encoding_length)
-/// returns a length of `dest` that is always enough. If you don't know whether the frame fits, call [`try_encode`],
-/// which returns an error if the frame doesn't fit.
-// Inlined, so that a short message is encoded without a call.
+/// Precondition: the frame fits `dest`. The frame always fits if the length of `dest` is at least
+/// [`max_encoding_length(source.len())`](crate::max_encoding_length). If you don't know whether the frame fits, call
+/// [`try_encode`], which returns an error if the frame doesn't fit.
+// This function is inlined, so that a short message is encoded without a call.
 #[inline(always)]
 pub fn encode(source: &[u8], dest: &mut [u8]) -> usize {
     if !has_vectors() {
@@ -48,8 +48,8 @@ pub fn encode(source: &[u8], dest: &mut [u8]) -> usize {
     encode_long(source, dest)
 }
 
-/// Encodes a message of any length as [`encode`] does. This function is separate from `encode`: otherwise `encode`
-/// would save registers for the loop of a long message, even when it encodes a short message.
+/// Encodes a message of any length as [`encode`] does. This function is separate from `encode`, so that `encode`
+/// doesn't save registers for a loop that only long messages need.
 #[inline(never)]
 fn encode_long(source: &[u8], dest: &mut [u8]) -> usize {
     if source.is_empty() {
@@ -63,7 +63,7 @@ fn encode_long(source: &[u8], dest: &mut [u8]) -> usize {
 /// the frame's length in bytes.
 ///
 /// # Errors
-/// `DestBufTooSmallError` exactly if the frame is longer than `dest`. Then no byte of `dest` has changed.
+/// Returns `DestBufTooSmallError` if and only if the frame is longer than `dest`. Then no byte of `dest` has changed.
 #[inline]
 pub fn try_encode(source: &[u8], dest: &mut [u8]) -> Result<usize, DestBufTooSmallError> {
     if !has_vectors() {
@@ -88,21 +88,21 @@ fn try_encode_any(source: &[u8], dest: &mut [u8]) -> Result<usize, DestBufTooSma
     Ok(close(dest, &encoder))
 }
 
-/// Encodes a message of up to 254 bytes for `sentinel`, and returns the frame's length in bytes. The caller ensures
-/// that the frame fits `dest`.
+/// Encodes a message of up to 254 bytes with `sentinel` as the sentinel, and returns the frame's length in bytes. The
+/// caller ensures that the frame fits `dest`.
 #[inline(always)]
 fn encode_block(source: &[u8], dest: &mut [u8], sentinel: u8) -> usize {
-    // The length that `encode` returns isn't used: the frame's length is computed from the message's length, which may
-    // be known to the compiler.
+    // The result of `encode` isn't used. The frame's length is computed from the message's length, because the compiler
+    // may know the message's length.
     let _len = encode(source, dest);
     let len = source.len() + 1;
     xor_bytes(&mut dest[..len], sentinel);
     len
 }
 
-/// Encodes a message of 1 to 4 bytes for `sentinel`, and returns the frame's length in bytes. If the message has
-/// another length, or if the frame doesn't fit `dest`, the function returns `None` and changes nothing.
-// There is a match arm for each length, so that compilers unroll the loops.
+/// Encodes a message of 1 to 4 bytes with `sentinel` as the sentinel, and returns the frame's length in bytes. If the
+/// message has another length, or if the frame doesn't fit `dest`, the function returns `None` and changes nothing.
+// Each length has its own match arm, so that compilers unroll the loops over the message.
 #[inline(always)]
 fn encode_few(source: &[u8], dest: &mut [u8], sentinel: u8) -> Option<usize> {
     if dest.len() <= source.len() {

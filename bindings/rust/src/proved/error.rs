@@ -1,5 +1,5 @@
 // Made by bindings/rust/translate.py from `crates/cobs/src/error.rt`: change that file, and run it again.
-//! Errors, and the sizes of a decoded message.
+//! Errors, and the report about a decoded message.
 
 /// The error of an encoder: the frame is longer than the slice to which it should be written, or the encoder's state
 /// isn't possible in a slice of this length.
@@ -25,7 +25,7 @@ impl core::fmt::Display for DestBufTooSmallError {
 
 impl core::error::Error for DestBufTooSmallError {}
 
-/// The reason why a frame is rejected. The names of the variants are those of the crate `cobs`.
+/// The reason why a frame is rejected. The names of the variants are those of the Rust crate `cobs`.
 ///
 /// ```
 /// use jcobs::{DecodeError, decode};
@@ -43,8 +43,8 @@ pub enum DecodeError {
 
     /// The frame breaks off inside a block, or the source has only zeros.
     InvalidFrame {
-        /// How many bytes were decoded. If the output was written to a buffer of the caller or of a streaming decoder,
-        /// that buffer begins with the decoded bytes.
+        /// How many bytes were decoded. If the output was written to the caller's buffer or to the buffer of a
+        /// streaming decoder, this buffer begins with the decoded bytes.
         decoded_bytes: usize,
     },
 
@@ -104,8 +104,8 @@ impl core::fmt::Display for PushError {
 
 impl core::error::Error for PushError {}
 
-/// A report of a decoded message: how many bytes of the source were consumed, and how many bytes the message has. The
-/// names of its methods are those of the crate `cobs`.
+/// A report about a decoded message: how many bytes of the source were consumed, and how many bytes the message has.
+/// The names of the methods are those of the Rust crate `cobs`.
 ///
 /// ```
 /// use jcobs::decode;

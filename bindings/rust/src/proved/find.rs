@@ -21,9 +21,9 @@ pub(crate) fn position_or_len(source: &[u8], byte: u8) -> usize {
 
 /// Returns how many bytes come before the first zero, or the length of `bytes` if there is no zero. The function is
 /// small, because it uses no SIMD vectors.
-// Not inlined, so that its loops can use all registers of a small processor. The loops advance the address of the
-// remaining bytes, so that no address is computed from an index. With four bytes per iteration, a byte costs half as
-// many instructions as with one byte per iteration.
+// This function isn't inlined, so that its loops can use all registers of a small processor. The loops advance the
+// address of the remaining bytes, so that no address is computed from an index. With four bytes per iteration, a byte
+// costs half as many instructions as with one byte per iteration.
 #[inline(never)]
 pub fn len_to_zero(bytes: &[u8]) -> usize {
     let mut rest = bytes;
@@ -74,7 +74,7 @@ pub(crate) fn len_without_end(source: &[u8], sentinel: u8) -> usize {
     }
 }
 
-/// Returns the index of the first zero if this zero is among the first 66 bytes, and otherwise the source's length.
+/// Returns the index of the first zero if this zero is among the first 66 bytes. Otherwise returns the source's length.
 #[inline(always)]
 pub(crate) fn front_len(source: &[u8]) -> usize {
     if source.len() < WINDOW {
@@ -90,7 +90,7 @@ pub(crate) fn front_len(source: &[u8]) -> usize {
     if later != 0 {
         return at + later.trailing_zeros() as usize;
     }
-    // The zero after the frame of a message of 63 or 64 bytes is at one of these two indices.
+    // If the message of the frame has 63 or 64 bytes, the zero after the frame is at one of the next two indices.
     if WIDE_WINDOW < source.len() && source[WIDE_WINDOW] == 0 {
         return WIDE_WINDOW;
     }

@@ -1,12 +1,12 @@
 // Made by bindings/rust/translate.py from `crates/cobs/src/framed.rt`: change that file, and run it again.
-//! A reader of frames from any source of bytes.
+//! A reader that reads frames from any source of bytes.
 //!
 //! `FrameReader` reads chunks of up to 64 bytes from a `FrameSource`: a file, a socket, a serial port or any other
-//! source. Each call of `next_frame` returns the outcome of one piece (the bytes between two zeros), the end of the
-//! source, or a fault. The reader reads from the source only if no piece ends in the bytes that it kept from earlier
-//! reads. No byte is lost: the bytes after the end of a piece are kept for the next call, and before a fault is
-//! returned, all bytes that were read are fed to the decoder. No call of this module allocates. (The rule that a zero
-//! ends each piece is from Cheshire and Baker's paper; the rest of this module is this library's own.)
+//! source. A piece consists of the bytes between two zeros. Each call of `next_frame` returns the outcome of one piece,
+//! the end of the source, or a fault. The reader reads from the source only if no piece ends in the bytes that it kept
+//! from earlier reads. No byte is lost. The bytes after the end of a piece are kept for the next call. Before a fault
+//! is returned, all bytes that were read are fed to the decoder. No call of this module allocates. (The rule that a
+//! zero ends each piece is from Cheshire and Baker's paper. The Rust crate `cobs` has no such module.)
 
 use crate::proved::dec::{FrameDecoder, PieceEnd};
 #[cfg(feature = "std")]
@@ -48,7 +48,7 @@ pub enum Next {
 /// The reason why a call of `next_frame` failed. No byte is lost: a later call continues after the bytes that were
 /// read.
 ///
-/// This example calls again after too many reads, but gives up if a read failed.
+/// This example calls `next_frame` again after too many reads, but gives up if a read failed.
 ///
 /// ```
 /// use jcobs::{FrameDecoder, FrameReader, FrameSource, Next, ReadFault};
@@ -75,7 +75,7 @@ pub enum ReadFault {
     TooManyReads,
 }
 
-/// A source of the bytes of a stream.
+/// A source from which the bytes of a stream are read.
 ///
 /// [`FrameReader::next_frame`] panics if a read returns a number above 64.
 ///
@@ -93,8 +93,8 @@ pub enum ReadFault {
 pub trait FrameSource {
     /// Reads bytes of the stream into `chunk`, with one read.
     ///
-    /// Returns `Some(n)` if the read succeeded: the first `n` bytes of `chunk` are then the bytes that were read, and
-    /// `n` is 0 at the end of the source. Returns `None` if the read failed.
+    /// Returns `Some(n)` if the read succeeded. The first `n` bytes of `chunk` are then the bytes that were read. At
+    /// the end of the source, `n` is 0. Returns `None` if the read failed.
     ///
     /// ```
     /// # #[cfg(feature = "std")] {
@@ -192,7 +192,7 @@ fn is_unfinished(before: bool, bytes: &[u8]) -> bool {
 /// piece ends.
 const MOST_READS: usize = 65536;
 
-/// Reads a stream with a decoder that the reader owns. Each call of `next_frame` reads one piece.
+/// Reads a stream, and decodes it with a decoder that the reader owns. Each call of `next_frame` reads one piece.
 ///
 /// The source isn't part of the reader: the caller passes a source to each call, so a stream may continue in another
 /// source.
@@ -217,7 +217,8 @@ pub struct FrameReader<D: FrameDecoder> {
     start: usize,
     end: usize,
 
-    /// Whether a piece has begun and hasn't ended yet, that is, whether the last byte that was fed isn't a zero.
+    /// Whether a piece has begun and hasn't ended yet. If bytes have been fed, this is true exactly if the last of them
+    /// isn't a zero.
     unfinished: bool,
 }
 
@@ -247,7 +248,8 @@ impl<D: FrameDecoder> FrameReader<D> {
         }
     }
 
-    /// Returns the decoder. After a `Next::Message(n)` the message is the first `n` bytes of the decoder's buffer.
+    /// Returns the decoder. After `next_frame` has returned `Next::Message(n)`, the message is the first `n` bytes of
+    /// the decoder's buffer.
     ///
     /// ```
     /// use jcobs::{CobsDecoderHeapless, FrameReader};
@@ -278,9 +280,9 @@ impl<D: FrameDecoder> FrameReader<D> {
     /// `Next::End` if the source ends before such a zero.
     ///
     /// The call first uses the bytes that earlier calls have kept. If no piece ends in these bytes, the call makes up
-    /// to 65,536 reads from the source. It stops after the first read that returned the end of a piece, that failed, or
-    /// that returned no bytes. The call keeps the bytes after the end of the piece for the next call. After `Next::End`
-    /// the stream may continue, in this source or in another one.
+    /// to 65,536 reads from the source. The call stops after the first read that returned the end of a piece, that
+    /// failed, or that returned no bytes. The bytes after the end of the piece are kept for the next call. After
+    /// `Next::End` the stream may continue, in this source or in another one.
     ///
     /// # Errors
     /// - `Io` if the last read of this call failed.
@@ -302,7 +304,7 @@ impl<D: FrameDecoder> FrameReader<D> {
     /// # }
     /// ```
     pub fn next_frame<S: FrameSource>(&mut self, source: &mut S) -> Result<Next, ReadFault> {
-        // A copy, because `feed_through_end` borrows the whole reader.
+        // The bytes are copied, because `feed_through_end` borrows the whole reader.
         let kept = self.chunk;
         if let Some((next, count)) = self.feed_through_end(&kept[self.start..self.end]) {
             self.start += count;

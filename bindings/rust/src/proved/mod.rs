@@ -1,5 +1,5 @@
 // Made by bindings/rust/translate.py from `crates/cobs/src/lib.rt`: change that file, and run it again.
-//! Consistent Overhead Byte Stuffing (COBS), with calls modelled on those of the crate `cobs` 0.5.1.
+//! Consistent Overhead Byte Stuffing (COBS), with calls modelled on those of the Rust crate `cobs` 0.5.1.
 
 pub(crate) mod block;
 pub(crate) mod cobs_bytes;
@@ -28,7 +28,7 @@ pub use framed::{FrameReader, FrameSource, Next, ReadFault};
 #[cfg(feature = "alloc")]
 pub use stream::{FrameOutcome, decode_stream};
 
-/// Returns the greatest overhead, in bytes, that the encoded frame of a message of `source_len` bytes can have. The
+/// Returns the greatest overhead, in bytes, that an encoded frame can have if its message has `source_len` bytes. The
 /// overhead of a frame is its length minus the length of its message.
 ///
 /// The greatest overhead is `source_len / 254`, rounded up, or 1 if the message is empty. A message without zeros has
@@ -42,8 +42,8 @@ pub const fn max_encoding_overhead(source_len: usize) -> usize {
     source_len.div_ceil(254)
 }
 
-/// Returns the length in bytes of the longest encoded frame that a message of `source_len` bytes can have. A buffer of
-/// this length has room for the frame of any message of `source_len` bytes. Sentinels aren't counted.
+/// Returns the length, in bytes, of the longest encoded frame that a message of `source_len` bytes can have. A buffer
+/// of this length has room for the frame of any message of `source_len` bytes. Sentinels aren't counted.
 ///
 /// Precondition: the length of the longest frame fits a `usize`. This is true for every `source_len` up to
 /// `isize::MAX`.

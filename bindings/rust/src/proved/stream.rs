@@ -2,18 +2,18 @@
 //! Calls for whole streams: `decode_stream` decodes all pieces that end in the next bytes of a stream, and
 //! `encode_frames` encodes several messages.
 //!
-//! A stream is cut at its zeros. A piece is the bytes, at least one, between two neighbouring zeros or before the first
-//! zero. A piece is a frame, breaks off inside a block, or decodes to more bytes than the buffer has room for. Each
-//! piece is decoded separately, so damage to one piece has no effect after the next zero. (The rule that a zero ends
-//! each frame is from Cheshire and Baker's paper; how broken and too long pieces are reported is a choice of this
-//! library.)
+//! A stream is cut at its zeros. A piece consists of the bytes between two neighbouring zeros, or before the first
+//! zero. It has at least one byte. There are three outcomes: a piece is a frame, breaks off inside a block, or decodes
+//! to more bytes than the buffer has room for. Each piece is decoded separately, so damage to one piece has no effect
+//! after the next zero. (The rule that a zero ends each frame is from Cheshire and Baker's paper. The outcomes of
+//! pieces that are broken or too long are a choice of this library.)
 
 use crate::memory::AllocError;
 use crate::proved::dec::{FrameDecoder, PieceEnd};
 #[cfg(feature = "alloc")]
 use alloc::vec::Vec;
 
-/// The outcome of a piece of a stream. A piece is one or more nonzero bytes, and a zero ends it.
+/// The outcome of a piece of a stream. A piece consists of one or more nonzero bytes, and a zero ends the piece.
 ///
 /// ```
 /// # #[cfg(feature = "alloc")] {
@@ -41,7 +41,7 @@ pub enum FrameOutcome {
     TooLong,
 }
 
-/// Converts `end`, the end of a piece whose output is in `buffer`, to the outcome of the piece.
+/// Returns the outcome of a piece. `end` says how the piece ended, and `buffer` contains its output.
 #[cfg(feature = "alloc")]
 fn frame_outcome(end: PieceEnd, buffer: &[u8]) -> Result<FrameOutcome, AllocError> {
     match end {
@@ -53,18 +53,18 @@ fn frame_outcome(end: PieceEnd, buffer: &[u8]) -> Result<FrameOutcome, AllocErro
 
 /// Decodes the next bytes of a stream, and returns one outcome for each piece that ends in these bytes, in order.
 ///
-/// The first of these pieces may have begun in an earlier call. A piece that hasn't ended is continued by the next
-/// call, because the decoder keeps its state. So a caller may cut a stream into chunks anywhere and decode one chunk
-/// per call: the outcomes of all calls, in order, are those of the whole stream. A zero at the front of a stream, or
-/// after another zero, ends no piece.
+/// The first of these pieces may have begun in an earlier call. The decoder keeps its state, so the next call continues
+/// a piece that hasn't ended. So a caller may cut a stream into chunks anywhere, and decode one chunk per call. The
+/// outcomes of all calls, in order, are those of the whole stream. A zero at the front of a stream, or after another
+/// zero, ends no piece.
 ///
 /// The caller may write to the decoder's buffer while a piece is open, but the bytes of this piece's message are then
 /// unspecified. The length of the message, and all other outcomes, aren't affected.
 ///
 /// # Errors
-/// `AllocError` if memory for an outcome runs out. Then the outcomes of this call are lost, and the decoder is idle, so
-/// the next nonzero byte begins a new piece. Only messages and the list of outcomes need memory. So if no piece ends,
-/// the result is `Ok`.
+/// `AllocError` if there isn't enough memory for an outcome. Then the outcomes of this call are lost, and the decoder
+/// is idle, so the next nonzero byte begins a new piece. Only messages and the list of outcomes need memory. So if no
+/// piece ends, the result is `Ok`.
 ///
 /// ```
 /// # #[cfg(feature = "alloc")] {

@@ -1,5 +1,5 @@
 // Made by bindings/rust/translate.py from `crates/cobs/src/dec/each.rt`: change that file, and run it again.
-//! Decoders that decode one byte at a time, for targets without SIMD vectors.
+//! Functions that decode one byte at a time, for targets without SIMD vectors.
 
 use crate::proved::block::{FULL, FULL_CODE};
 use crate::proved::dec::frame_decoder::PieceEnd;
@@ -15,9 +15,9 @@ use crate::proved::find::{leading_zeros, len_to, len_to_zero};
 ///
 /// # Errors
 ///
-/// `InvalidFrame` if the frame breaks off inside its last block. The number `decoded_bytes` is the same as that of
+/// `InvalidFrame` if the frame breaks off inside its last block. `decoded_bytes` is the same number as in the error of
 /// [`decode_in_place`](crate::decode_in_place). The bytes of the broken block aren't decoded.
-// Not inlined, so that its loops can use all registers of a small processor.
+// This function isn't inlined, so that its loops can use all registers of a small processor.
 #[inline(never)]
 pub fn decode_blocks_each(buffer: &mut [u8], end: usize) -> Result<usize, DecodeError> {
     let mut read = 0;
@@ -32,7 +32,7 @@ pub fn decode_blocks_each(buffer: &mut [u8], end: usize) -> Result<usize, Decode
         let next = read + code;
         read += 1;
         // The test of the inner loop is written at the end of the loop, because compilers that optimize for size don't
-        // move a test there.
+        // move it there themselves.
         if read != next {
             loop {
                 buffer[written] = buffer[read];
@@ -67,7 +67,7 @@ pub(crate) fn decode_in_place_each(buf: &mut [u8]) -> Result<DecodeReport, Decod
 
 /// Finds the first zero of the source from index `at` on. Returns the index after this zero, or the source's length if
 /// there is no zero from `at` on.
-// Not inlined, so that the loops of its caller can use all registers of a small processor.
+// This function isn't inlined, so that the loops of its caller can use all registers of a small processor.
 #[inline(never)]
 fn through_piece(source: &[u8], at: usize) -> usize {
     let mut end = at;
@@ -121,7 +121,8 @@ pub fn decode_piece(source: &[u8], dest: &mut [u8]) -> Option<(PieceEnd, usize)>
             written += 1;
             left -= 1;
         } else {
-            // `byte` is the code of the next block. A zero joins the two blocks, unless the block before is full.
+            // `byte` is the code of the next block. A zero joins the current block and the next block, unless the
+            // current block is full.
             if code != FULL {
                 if written == dest.len() {
                     return Some((PieceEnd::TooLong, through_piece(source, at)));

@@ -1,5 +1,5 @@
 // Made by bindings/rust/translate.py from `crates/cobs/src/dec/forms.rt`: change that file, and run it again.
-//! `decode_with_sentinel`, which decodes for any sentinel, and the calls that decode into a new vector.
+//! `decode_with_sentinel`, whose caller chooses the sentinel, and the calls that decode into a new vector.
 
 use crate::proved::block::FULL_BLOCK_BYTES;
 use crate::proved::cobs_bytes::window::{WIDE_WINDOW, has_vectors};
@@ -11,8 +11,9 @@ use crate::proved::find::{len_without_end, position_or_len};
 
 /// Decodes a source that contains no sentinel, and returns the message's length in bytes.
 fn decode_blocks(source: &[u8], dest: &mut [u8], sentinel: u8) -> Result<usize, DecodeError> {
-    // A block has at most 255 bytes, so a block that begins before the last 254 bytes of the source is whole. These
-    // blocks are decoded at once. In the last 254 bytes, `kept_len` first finds out whether the last block is broken.
+    // A block has at most 255 bytes. So each block that begins before the last 254 bytes of the source is whole, and
+    // the bytes before the last 254 bytes need no test. Before the last 254 bytes are decoded, `kept_len` finds out
+    // whether the last block is broken.
     let tail = source.len().saturating_sub(FULL_BLOCK_BYTES);
     let mut progress = START;
     if progress.take_blocks(dest, &source[..tail], sentinel) < tail {
@@ -25,25 +26,27 @@ fn decode_blocks(source: &[u8], dest: &mut [u8], sentinel: u8) -> Result<usize, 
     message_len(progress.written, whole)
 }
 
-/// Decodes the frame at the front of the source, for any sentinel, and returns the message's length in bytes.
+/// Decodes the frame at the front of the source, and returns the message's length in bytes. The frame was encoded with
+/// `sentinel`, which may be any byte.
 ///
 /// The frame ends at the source's first sentinel, or at the end of the source. Each byte of the frame is XORed with the
-/// sentinel before it is decoded. After the call `dest` begins with the message, and every byte of `dest` after the
+/// sentinel before it is decoded. After the call, `dest` begins with the message, and every byte of `dest` after the
 /// message is as it was. Unlike [`decode`](crate::decode), this function reads a leading sentinel as an empty message,
 /// and returns 0.
 ///
 /// # Errors
 ///
-/// - `EmptyFrame` if the source is empty; `dest` is as it was.
-/// - `TargetBufTooSmall` if the message is longer than `dest`, or if the frame breaks off and the output of its whole
-///   blocks is longer than `dest`. In both cases `dest` is then filled with the first bytes of that message or output.
-/// - `InvalidFrame` if the frame breaks off inside a block and the output of its whole blocks fits `dest`. Then `dest`
-///   begins with that output, `decoded_bytes` is the length of the output, and every byte of `dest` after the output is
-///   as it was. If the block before the broken block isn't full, the output ends with the zero that joins the two
-///   blocks.
+/// - `EmptyFrame` if the source is empty. Then `dest` is as it was.
+/// - `TargetBufTooSmall` if the message is longer than `dest`, or if the frame breaks off and the output of the frame's
+///   whole blocks is longer than `dest`. In both cases `dest` is filled with the first bytes of the message or of this
+///   output.
+/// - `InvalidFrame` if the frame breaks off inside a block and the output of the frame's whole blocks fits `dest`. Then
+///   `dest` begins with this output, `decoded_bytes` is the length of the output, and every byte of `dest` after the
+///   output is as it was. If the block before the broken block isn't full, the output ends with the zero that joins the
+///   two blocks.
 ///
-/// Cheshire and Baker's paper describes frames for a sentinel other than 0; the results for broken frames are a choice
-/// of this library.
+/// Cheshire and Baker's paper describes how frames are encoded with a sentinel other than 0. The results for broken
+/// frames are a choice of this library.
 #[inline]
 pub fn decode_with_sentinel(
     source: &[u8],
@@ -57,8 +60,8 @@ pub fn decode_with_sentinel(
         return Err(DecodeError::EmptyFrame);
     }
     let len = len_without_end(source, sentinel);
-    // A broken frame must not change bytes of `dest` after its output, so a short frame is first decoded into the local
-    // buffer `short`.
+    // If the frame is broken, the bytes of `dest` after the output must stay as they were. So a short frame is first
+    // decoded into the local buffer `short`.
     let mut short = [0; WIDE_WINDOW];
     if len <= dest.len() + 1 && decode_span(&source[..len], &mut short, sentinel) == Some(0) {
         dest[..len - 1].copy_from_slice(&short[..len - 1]);

@@ -1,5 +1,5 @@
 // Made by bindings/rust/translate.py from `crates/cobs/src/dec/frame_decoder.rt`: change that file, and run it again.
-//! The traits of the streaming decoders. `FrameDecoder` is for decoding; `stream` and `framed` use this trait.
+//! The traits of the streaming decoders. `FrameDecoder` is for decoding; the modules `stream` and `framed` use it.
 //! `WriteBuffer` is for writing to the decoder's buffer.
 
 use crate::proved::error::DecodeError;
@@ -28,8 +28,8 @@ pub enum PieceEnd {
 }
 
 impl PieceEnd {
-    /// Returns how a piece ended. `returned` is the result of `feed` for the zero after the piece. If no piece had begun
-    /// before the zero, the function returns `None`.
+    /// Returns how a piece ended. `returned` is the result of `feed` for the zero after the piece. If no piece had
+    /// begun before the zero, the function returns `None`.
     ///
     /// ```
     /// use jcobs::{PieceEnd, UnbufferedDecoder};
@@ -66,8 +66,8 @@ impl PieceEnd {
 /// ```
 pub trait FrameDecoder {
     /// Decodes the next byte of the stream. The results and errors are those of
-    /// [`CobsDecoder::feed`](crate::CobsDecoder::feed). As long as the output of the piece fits the buffer, the byte
-    /// has the same effect on the decoder's state as on a [`DecoderState`](crate::DecoderState).
+    /// [`CobsDecoder::feed`](crate::CobsDecoder::feed). As long as the output of the piece fits the buffer, the fed
+    /// byte changes the decoder's state in the same way as it changes a [`DecoderState`](crate::DecoderState).
     ///
     /// ```
     /// use jcobs::{CobsDecoderHeapless, FrameDecoder};
@@ -80,9 +80,9 @@ pub trait FrameDecoder {
 
     /// Decodes the next bytes of the stream, and stops after the first zero that ends a piece.
     ///
-    /// - Returns `None` if no piece ended in these bytes. In this case all these bytes were decoded.
+    /// - Returns `None` if no piece ended in these bytes. In this case all of these bytes were decoded.
     /// - Returns `Some((end, count))` if the zero at index `count - 1` ended a piece; `end` says how the piece ended.
-    ///   The bytes after that zero had no effect, so the caller continues with the byte at index `count`, even if the
+    ///   The bytes after that zero had no effect. So the caller continues with the byte at index `count`, even if the
     ///   piece is too long for the buffer.
     ///
     /// The bytes of the buffer after the piece's output are as they were.

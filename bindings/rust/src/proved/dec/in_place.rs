@@ -1,5 +1,5 @@
 // Made by bindings/rust/translate.py from `crates/cobs/src/dec/in_place.rt`: change that file, and run it again.
-//! Decoding a frame in its own buffer.
+//! Decoding a frame in the buffer that holds it.
 
 use crate::proved::block::FULL_BLOCK_BYTES;
 use crate::proved::cobs_bytes::lanes::{copy_xored_short, move_to_front, xor_bytes};
@@ -18,14 +18,14 @@ fn move_back(buffer: &mut [u8], at: usize, read: usize, len: usize) {
 }
 
 impl UnbufferedDecoder {
-    /// Makes one decoding step in the buffer: decodes one or more bytes. The first of these bytes is at index `read`,
+    /// Makes one decoding step: decodes one or more bytes of the buffer. The first of these bytes is at index `read`,
     /// and the last is before index `end`. Writes the output to the same buffer, and returns how many bytes it decoded.
-    /// The steps are those of `take_part` in `run.rt`, with two differences: a step decodes at most one row of 32
-    /// blocks 01, and the output always fits.
+    /// The steps are those of `take_part` in `run.rt`, with two differences. First, if the bytes begin with rows of 32
+    /// blocks, each with the code 01, a step decodes only the first row. Second, the output always fits the buffer.
     ///
     /// The output must not overwrite a byte that isn't decoded yet. So the caller ensures that the output so far is at
-    /// most `read` bytes long. If the next code will add the zero of a joint, the output so far is less than `read`
-    /// bytes long.
+    /// most `read` bytes long. If the next code will add the zero of a joint, the caller ensures that the output so far
+    /// is less than `read` bytes long.
     #[inline(always)]
     fn take_part_in_place(&mut self, buffer: &mut [u8], read: usize, end: usize) -> usize {
         let code = buffer[read];
@@ -70,8 +70,9 @@ impl UnbufferedDecoder {
 /// bytes. The caller ensures that none of these bytes is a zero.
 #[inline(never)]
 fn decode_blocks_in_place(buffer: &mut [u8], end: usize) -> Result<usize, DecodeError> {
-    // A block has at most 255 bytes, so a block that begins before the last 254 bytes of the frame is whole. These
-    // blocks are decoded at once. In the last 254 bytes, `kept_len` first finds out whether the last block is broken.
+    // A block has at most 255 bytes. So each block that begins before the last 254 bytes of the frame is whole, and the
+    // bytes before the last 254 bytes need no test. Before the last 254 bytes are decoded, `kept_len` finds out whether
+    // the last block is broken.
     let tail = end.saturating_sub(FULL_BLOCK_BYTES);
     let mut progress = START;
     progress.take_in_place(buffer, 0, tail);
@@ -80,9 +81,9 @@ fn decode_blocks_in_place(buffer: &mut [u8], end: usize) -> Result<usize, Decode
     message_len(progress.written, whole)
 }
 
-/// Decodes the first `len` bytes of the buffer, in the buffer itself, if `len` is 2 to 65 and these bytes are a frame.
-/// Returns whether it decoded the bytes; if it returns false, the buffer is as it was. The function copies the bytes
-/// before it decodes them, and restores them from the copy if the frame is broken.
+/// Decodes the first `len` bytes of the buffer, in the buffer itself, if `len` is from 2 to 65 and these bytes are a
+/// frame. Returns whether it decoded the bytes; if it returns false, the buffer is as it was. The function copies the
+/// bytes before it decodes them, and restores them from the copy if the frame is broken.
 #[inline(always)]
 fn decode_span_in_place(buffer: &mut [u8], len: usize) -> bool {
     let mut coded = [0; WIDE_WINDOW + 1];
@@ -94,7 +95,7 @@ fn decode_span_in_place(buffer: &mut [u8], len: usize) -> bool {
     }
     coded[0] = buffer[0];
     // The bytes to decode are moved within the buffer. They aren't copied back from `coded`, because a load from
-    // `coded` would have to wait until the vectors of this copy are stored.
+    // `coded` would have to wait until the vectors that were just copied to `coded` are stored.
     move_to_front(buffer, 1, len - 1);
     let (_, left) = write_zeros_at_codes(&mut buffer[..len - 1], coded[0] as usize);
     if left != 0 {
@@ -109,20 +110,21 @@ fn decode_span_in_place(buffer: &mut [u8], len: usize) -> bool {
 ///
 /// The first `frame_size` bytes of the buffer are then the message, and every other byte of the buffer is as it was.
 /// `parsed_size` is the number of bytes before the first zero, or the length of the buffer if it has no zero. Unlike
-/// [`decode`](crate::decode), this function reads a leading zero as an empty message, and returns 0 for both sizes.
-/// This function never returns `TargetBufTooSmall`, because a message is shorter than its frame.
+/// [`decode`](crate::decode), this function reads a leading zero as an empty message. Both `parsed_size` and
+/// `frame_size` are then 0. This function never returns `TargetBufTooSmall`, because a message is shorter than its
+/// frame.
 ///
 /// # Errors
 ///
 /// - `EmptyFrame` if the buffer is empty.
 /// - `InvalidFrame` if the frame breaks off inside a block. The buffer then begins with the output of the whole blocks
 ///   before the broken block. If the block before the broken block isn't full, the output ends with the zero that joins
-///   the two blocks. `decoded_bytes` is the length of the output, and every byte of the buffer after the output is as
+///   the two blocks. `decoded_bytes` is the length of this output, and every byte of the buffer after the output is as
 ///   it was.
 ///
 /// The rule that an error leaves the bytes after the output unchanged is a choice of this library.
-// Inlined, because a call would return its result in memory. Such a call costs as much as decoding a frame of a few
-// bytes.
+// This function is inlined, because a call would return its result in memory. Such a call costs as much time as
+// decoding a frame of a few bytes.
 #[inline(always)]
 pub fn decode_in_place_report(buf: &mut [u8]) -> Result<DecodeReport, DecodeError> {
     if !has_vectors() {
@@ -142,12 +144,13 @@ pub fn decode_in_place_report(buf: &mut [u8]) -> Result<DecodeReport, DecodeErro
     })
 }
 
-/// Decodes a short frame as [`decode_in_place_report`] does. For any other buffer, returns `None` and leaves the buffer
-/// as it was.
+/// Decodes a short frame in place, as [`decode_in_place_report`] does. If the buffer isn't a short frame, returns
+/// `None` and leaves the buffer as it was.
 ///
-/// A buffer is decoded if it is a whole frame of 2 to 65 bytes, with or without one zero after the frame. If the target
-/// has SIMD vectors, [`decode_in_place_report`] calls this function first. Like `decode_short`,
-/// this function is marked `#[inline(always)]`, and so are the functions of this library that it calls.
+/// The buffer is decoded if it consists of a whole frame of 2 to 65 bytes, with or without one zero after the frame. If
+/// the target has SIMD vectors, [`decode_in_place_report`] calls this function first. Like
+/// `decode_short`, this function is marked `#[inline(always)]`, and so are the functions of this
+/// library that it calls.
 #[inline(always)]
 pub fn decode_short_in_place(buf: &mut [u8]) -> Option<DecodeReport> {
     if buf.is_empty() {
@@ -174,12 +177,13 @@ pub fn decode_in_place(buff: &mut [u8]) -> Result<usize, DecodeError> {
     Ok(decode_in_place_report(buff)?.frame_size())
 }
 
-/// Decodes the frame at the front of the buffer in place, for any sentinel, and returns the message's length.
+/// Decodes the frame at the front of the buffer in place, and returns the message's length. The frame was encoded with
+/// `sentinel`, which may be any byte.
 ///
 /// This function first XORs every byte of the buffer with the sentinel, even the bytes after the frame. Then it calls
-/// [`decode_in_place`] and returns the result of this call. So the frame ends at the first sentinel or at the buffer's
-/// end, and a leading sentinel is read as an empty message. Cheshire and Baker's paper describes frames for a sentinel
-/// other than 0.
+/// [`decode_in_place`] and returns the result of this call. So the frame ends at the first sentinel, or at the buffer's
+/// end if the buffer has no sentinel. A leading sentinel is read as an empty message. Cheshire and Baker's paper
+/// describes how frames are encoded with a sentinel other than 0.
 pub fn decode_in_place_with_sentinel(buff: &mut [u8], sentinel: u8) -> Result<usize, DecodeError> {
     xor_bytes(buff, sentinel);
     decode_in_place(buff)

@@ -1,10 +1,10 @@
 // Made by bindings/rust/translate.py from `crates/cobs/src/dec/kind.rt`: change that file, and run it again.
-//! Tells whether some bytes are a frame, and whether the frame is the one that encoders write for its message.
+//! Finds out whether some bytes are a frame, and whether the frame is the one that encoders write for its message.
 
 use crate::proved::block::FULL_CODE;
 use crate::proved::find::zero_or_len;
 
-/// Whether some bytes are a frame, and whether the frame is the one that encoders write for its message.
+/// Says whether some bytes are a frame, and whether the frame is the one that encoders write for its message.
 ///
 /// ```
 /// use jcobs::{FrameKind, frame_kind};
@@ -23,19 +23,19 @@ pub enum FrameKind {
     Canonical,
 
     /// The bytes are the longer frame of a message: the frame that encoders write for this message, followed by the
-    /// byte 01, a block that has only its code. A message has a longer frame only if the length of its last run of
-    /// nonzero bytes is positive and divisible by 254.
+    /// block 01, which has only its code. A message has a longer frame only if it ends in a run of nonzero bytes whose
+    /// length is a positive multiple of 254.
     Longer,
 }
 
 /// Returns whether the bytes are a frame, and whether the frame is the one that encoders write for its message.
 ///
-/// `bytes` are the bytes between two sentinels. If a message has two frames, the longer frame is the one whose last two
-/// blocks are a full block, with the code 255, and the block 01. Decoders return the same message for both frames. The
+/// `bytes` are the bytes between two sentinels. If a message has two frames, the last two blocks of the longer frame
+/// are a full block, which has the code 255, and the block 01. Decoders return the same message for both frames. The
 /// function allocates nothing.
 ///
 /// A frame is defined by its blocks, as in Cheshire and Baker's paper. If a message has two frames, the shorter frame
-/// is canonical (a choice of this library): all `encode` functions of this library write the shorter frame.
+/// is the canonical one. This is a choice of this library: all its `encode` functions write the shorter frame.
 pub fn frame_kind(bytes: &[u8]) -> FrameKind {
     if zero_or_len(bytes) < bytes.len() {
         return FrameKind::NotAFrame;
@@ -66,6 +66,6 @@ pub fn kind_by_blocks(bytes: &[u8]) -> FrameKind {
         after_full = code == FULL_CODE;
         read += code;
     }
-    // The loop returns at the last block, so it ends only if there are no bytes.
+    // The loop returns at the last block, so this line is reached only if there are no bytes.
     FrameKind::NotAFrame
 }

@@ -1,9 +1,11 @@
 // Made by bindings/rust/translate.py from `crates/cobs/src/dec/run.rt`: change that file, and run it again.
 //! The loop that decodes the bytes before a sentinel, on targets with SIMD vectors. Each step of the loop decodes a
-//! long block, rows of 32 blocks 01, a *span*, or only a code. A span is up to 253 bytes of a piece. All bytes of a
-//! span are copied, even the codes, and then a zero is written over each code.
+//! long block, one or more *rows*, a *span*, or only a code. A row consists of 32 blocks, each with the code 01. A span
+//! consists of up to 253 bytes of a piece. All bytes of a span are copied, even the codes, and then a zero is written
+//! over each code.
 //!
-//! Each step requires that the output so far fits the buffer, and ensures that it still does (the clauses `going`).
+//! Each step requires that the output so far fits the buffer, and ensures that the output still fits after the step.
+//! The clauses `going` state this.
 
 use crate::proved::cobs_bytes::lanes::{copy_xored, copy_xored_short};
 use crate::proved::cobs_bytes::window::{WIDE_WINDOW, WINDOW, copy_window, has_vectors};
@@ -27,8 +29,8 @@ impl UnbufferedDecoder {
         self.missing = code - 1;
     }
 
-    /// Returns the greatest length of a span in the next `len` bytes. If the open block is full, the span ends no later
-    /// than the open block. If no piece has begun, the function returns 0.
+    /// Returns how many of the next `len` bytes a span may contain. If the open block is full, the span ends no later
+    /// than this block. If no piece has begun, the function returns 0.
     #[inline(always)]
     pub(crate) fn span_len(&self, len: usize) -> usize {
         if self.joint == 0 {
@@ -38,10 +40,10 @@ impl UnbufferedDecoder {
         }
     }
 
-    /// Decodes the code of a new block, and then as many bytes of this block as `bytes` has and `dest` has room for.
-    /// Returns how many bytes it decoded, including the code. The caller ensures that the preceding block, if there is
-    /// one, is whole. The function returns 0 only if `dest` has no room for the zero that joins the preceding block and
-    /// the new block.
+    /// Decodes the code of a new block, and then the bytes of this block that follow in `bytes`, as long as `dest` has
+    /// room for them. Returns how many bytes it decoded, including the code. The caller ensures that the preceding
+    /// block, if there is one, is whole. The function returns 0 only if `dest` has no room for the zero that joins the
+    /// preceding block and the new block.
     #[inline(always)]
     fn take_block(&mut self, dest: &mut [u8], bytes: &[u8], sentinel: u8) -> usize {
         if self.joint != 0 && dest.len() <= self.written {
@@ -52,8 +54,8 @@ impl UnbufferedDecoder {
         let len = (self.missing as usize)
             .min(bytes.len() - 1)
             .min(dest.len().saturating_sub(at));
-        // If earlier calls had a longer buffer, `dest` may be shorter than `at`. Then the slice of `dest` below would
-        // be out of bounds, but `len` is 0, and the function returns here.
+        // If earlier calls had a longer buffer, `dest` may have fewer than `at` bytes. The slice of `dest` below would
+        // then be out of bounds. But `len` is 0 in this case, and the function returns here.
         if len == 0 {
             return 1;
         }
@@ -73,8 +75,8 @@ impl UnbufferedDecoder {
     }
 
     /// Decodes `len` bytes that the caller has moved to the end of the output, that is, to index `written` of `dest`.
-    /// The caller ensures that there are 1 to 253 bytes, that none of them is a zero, and that no full block ends before
-    /// the last of them.
+    /// The caller ensures that there are 1 to 253 bytes, that none of them is a zero, and that no full block ends
+    /// before the last of them.
     #[inline(always)]
     pub(crate) fn take_moved(&mut self, dest: &mut [u8], len: usize) {
         let at = self.written;
@@ -84,8 +86,8 @@ impl UnbufferedDecoder {
             self.missing -= len as u8;
             return;
         }
-        // `missing` bytes of the open block are missing. The same number of bytes is missing directly after a code of
-        // `missing + 1`, so this code is passed.
+        // `missing` bytes of the open block are missing, as in a block that has just begun with the code `missing + 1`.
+        // So `missing + 1` is passed as the code.
         self.settle(write_zeros_at_codes(&mut dest[at..at + len], missing + 1));
     }
 
@@ -102,8 +104,8 @@ impl UnbufferedDecoder {
             self.missing -= len as u8;
             return;
         }
-        // `missing` bytes of the open block are missing. The same number of bytes is missing directly after a code of
-        // `missing + 1`, so this code is passed.
+        // `missing` bytes of the open block are missing, as in a block that has just begun with the code `missing + 1`.
+        // So `missing + 1` is passed as the code.
         self.settle(write_zeros_at_copied(
             &mut dest[at..at + len],
             copied,
@@ -130,7 +132,7 @@ impl UnbufferedDecoder {
     }
 
     /// Decodes `bytes` as one span, or decodes nothing. Returns whether it decoded the bytes; if it returns false,
-    /// nothing has changed. The function decodes the bytes exactly if all these conditions hold:
+    /// nothing has changed. The function decodes the bytes exactly if all of these conditions hold:
     ///
     /// - A piece has begun, and isn't too long for the buffer.
     /// - There are 1 to 31 bytes, and none of them is a zero.
@@ -153,9 +155,10 @@ impl UnbufferedDecoder {
         true
     }
 
-    /// Decodes `bytes`, the first bytes of a piece, and returns true, or decodes nothing and returns false. The caller
-    /// ensures that `bytes` has at most 65 bytes, and that none of them is a zero. The function decodes the bytes
-    /// exactly if there are at least 2 bytes, and `dest` has room for their output, which is one byte shorter.
+    /// Decodes `bytes`, the first bytes of a piece, or decodes nothing. Returns whether it decoded the bytes; if it
+    /// returns false, nothing has changed. The caller ensures that `bytes` has at most 65 bytes, and that none of them
+    /// is a zero. The function decodes the bytes exactly if there are at least 2 bytes, and `dest` has room for their
+    /// output. The output is one byte shorter than `bytes`.
     #[inline(always)]
     pub(crate) fn take_front(&mut self, dest: &mut [u8], bytes: &[u8]) -> bool {
         let len = bytes.len();
@@ -174,15 +177,16 @@ impl UnbufferedDecoder {
         true
     }
 
-    /// Decodes bytes from the front of `bytes` in one step, and returns how many bytes it decoded. It returns 0 only if
-    /// `dest` has no room for the output of the first byte.
+    /// Decodes bytes from the front of `bytes` in one step, and returns how many bytes it decoded. The function returns
+    /// 0 only if `dest` has no room for the output of the first byte.
     ///
     /// - If the first byte is the code of a block that has at least 64 bytes after its code, the step decodes this code
     ///   and the bytes of the block.
     /// - If the first byte is a smaller code, and its block begins the piece or follows a full block, the step decodes
     ///   only this code. Such a code adds no byte to the output.
-    /// - Otherwise, if the first bytes are rows of 32 blocks 01, the step decodes up to seven rows.
-    /// - In all other cases the step decodes a span.
+    /// - Otherwise, if the first bytes are rows of 32 blocks, each with the code 01, the step decodes up to seven of
+    ///   these rows.
+    /// - If none of these applies, the step decodes a span.
     #[inline(always)]
     fn take_part(&mut self, dest: &mut [u8], bytes: &[u8], sentinel: u8) -> usize {
         if self.missing == 0 {
@@ -209,8 +213,8 @@ impl UnbufferedDecoder {
     /// ensures that none of the bytes is the sentinel.
     #[inline(always)]
     pub(crate) fn take_blocks(&mut self, dest: &mut [u8], bytes: &[u8], sentinel: u8) -> usize {
-        // The loop changes `here`, a copy of the decoder, which stays in registers. `too_long` is 0 before the loop and
-        // after it, so it isn't copied.
+        // The loop changes `here`, a copy of the decoder that stays in registers. `too_long` is 0 before and after the
+        // loop, so this field isn't copied.
         let mut here = UnbufferedDecoder {
             too_long: 0,
             ..*self
@@ -230,12 +234,12 @@ impl UnbufferedDecoder {
     }
 
     /// Decodes `bytes` up to the first zero, as long as `dest` has room for the output. Returns how many bytes it
-    /// decoded. The function searches for the first zero once, before it decodes the bytes.
-    /// If the piece is already too long for the buffer, the function decodes nothing.
+    /// decoded. The function searches for the first zero only once, before it decodes the bytes. If the piece is
+    /// already too long for the buffer, the function decodes nothing.
     #[inline(always)]
     pub(crate) fn take_run(&mut self, dest: &mut [u8], bytes: &[u8]) -> usize {
         // If the piece is too long, `feed` returns an error for each of the next bytes of the piece, and `push` must
-        // stop at the first of them. So no byte is decoded here.
+        // stop at the first of these bytes. So no byte is decoded here.
         if self.too_long != 0 {
             return 0;
         }
@@ -243,8 +247,8 @@ impl UnbufferedDecoder {
         self.take_blocks(dest, &bytes[..end], 0)
     }
 
-    /// Decodes `bytes` as [`take_run`](Self::take_run) does, if the target has vectors. If the target has no vectors,
-    /// the function decodes nothing and returns 0; the caller then feeds the bytes one by one.
+    /// Decodes `bytes` as [`take_run`](Self::take_run) does, if the target has SIMD vectors. If the target has none,
+    /// the function decodes nothing and returns 0. The caller then feeds the bytes one by one.
     #[inline(always)]
     pub(crate) fn take_at_once(&mut self, dest: &mut [u8], bytes: &[u8]) -> usize {
         if has_vectors() {

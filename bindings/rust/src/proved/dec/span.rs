@@ -1,5 +1,5 @@
 // Made by bindings/rust/translate.py from `crates/cobs/src/dec/span.rt`: change that file, and run it again.
-//! Functions that go from each code of a piece to the next code: in bytes that were copied, and in the last bytes of a
+//! Functions that go through a piece from code to code, either in bytes that were copied or in the last bytes of the
 //! piece.
 
 use crate::proved::block::FULL_BLOCK_BYTES;
@@ -51,10 +51,10 @@ pub(crate) fn write_zeros_at_copied(
     )
 }
 
-/// Decodes up to seven rows of 32 codes 01 from the front of `bytes`, and returns the number of these codes. `byte` is
-/// the code 01, XORed with the sentinel. For each code the function writes a zero to `dest`, from index `at` on. It
-/// stops before a row that contains another byte, and before a row for which `dest` has no room. The limit is seven
-/// rows, because eight rows would be longer than a span.
+/// Decodes up to seven rows from the front of `bytes`, and returns the number of bytes that it decoded. A row consists
+/// of 32 blocks, each with the code 01. `byte` is this code, XORed with the sentinel. For each code the function writes
+/// a zero to `dest`, from index `at` on. It stops before 32 bytes that aren't a row, and before a row for which `dest`
+/// has no room. The limit is seven rows, because eight rows would be longer than a span.
 #[inline(always)]
 pub(crate) fn write_rows(dest: &mut [u8], at: usize, bytes: &[u8], byte: u8) -> usize {
     let most = bytes.len().min(dest.len().saturating_sub(at)).min(SPAN_MAX);
@@ -66,10 +66,11 @@ pub(crate) fn write_rows(dest: &mut [u8], at: usize, bytes: &[u8], byte: u8) -> 
     len
 }
 
-/// Writes a zero over each code in `dest`, as [`write_zeros_at_copied`] does. If `dest` begins with rows of 32 codes 01,
-/// each row is replaced in one step.
-// It would be slower to go from code to code, because each load would wait for the preceding load. Rows are looked for
-// only at the front of `dest`: a test after each code would take longer than the code.
+/// Writes a zero over each code in `dest`, as [`write_zeros_at_copied`] does. If `dest` begins with rows of 32 blocks,
+/// each with the code 01, the function replaces each row in one step.
+// In a row it would be slower to go from code to code, because each load would wait for the preceding load. The
+// function looks for rows only at the front of `dest`, because a test after each code would take longer than decoding
+// the code.
 #[inline(always)]
 pub(crate) fn write_zeros_by_rows(
     dest: &mut [u8],
@@ -86,10 +87,10 @@ pub(crate) fn write_zeros_by_rows(
     write_zeros_at_copied(dest, copied, first, sentinel)
 }
 
-/// Decodes a source of 2 to 65 bytes for `sentinel`, and returns how many bytes of its last block are missing. The
-/// output has one byte fewer than the source, and the bytes of `dest` after the output are unchanged. Returns `None`
-/// and changes nothing if the source has fewer than 2 or more than 65 bytes, if one of its bytes is the sentinel, or if
-/// `dest` is shorter than the output.
+/// Decodes a source of 2 to 65 bytes that was encoded with `sentinel`, and returns how many bytes of the source's last
+/// block are missing. The output has one byte fewer than the source, and the bytes of `dest` after the output are
+/// unchanged. Returns `None` and changes nothing if the source has fewer than 2 or more than 65 bytes, if one of its
+/// bytes is the sentinel, or if `dest` is shorter than the output.
 #[inline(always)]
 pub(crate) fn decode_span(source: &[u8], dest: &mut [u8], sentinel: u8) -> Option<u8> {
     let len = source.len();
@@ -104,10 +105,10 @@ pub(crate) fn decode_span(source: &[u8], dest: &mut [u8], sentinel: u8) -> Optio
     Some(left)
 }
 
-/// Returns how many of `bytes` have to be decoded, and whether the piece is whole; `bytes` are the last bytes of a
-/// piece. A whole piece is decoded to its end. A broken piece is decoded up to and including the code of its last
-/// block, because the kept output doesn't include the other bytes of that block. The first `left` bytes belong to a
-/// block that began before `bytes`. Each byte of `bytes` is XORed with the sentinel before it is read.
+/// Returns how many of the last bytes of a piece have to be decoded, and whether the piece is whole. `bytes` are these
+/// last bytes. A whole piece is decoded to its end. A broken piece is decoded up to and including the code of its last
+/// block, because the kept output doesn't include the other bytes of that block. The first `left` bytes of `bytes`
+/// belong to a block that began before `bytes`. Each byte of `bytes` is XORed with the sentinel before it is read.
 pub(crate) fn kept_len(bytes: &[u8], left: usize, sentinel: u8) -> (usize, bool) {
     let mut at = left;
     while at < bytes.len() {
@@ -116,8 +117,8 @@ pub(crate) fn kept_len(bytes: &[u8], left: usize, sentinel: u8) -> (usize, bool)
         if rest < code {
             return (at + 1, false);
         }
-        // A row of 32 blocks 01 is skipped in one step. It would be slower to go from code to code, because each load
-        // would wait for the preceding load.
+        // A row of 32 blocks, each with the code 01, is skipped in one step. It would be slower to go from code to
+        // code, because each load would wait for the preceding load.
         if code == 1 && WINDOW <= rest && is_all(bytes, at, 1 ^ sentinel) {
             at += WINDOW;
             continue;
@@ -127,7 +128,7 @@ pub(crate) fn kept_len(bytes: &[u8], left: usize, sentinel: u8) -> (usize, bool)
     (at, true)
 }
 
-/// Returns `len` as the message's length if the frame is whole, otherwise the error for a broken frame.
+/// Returns `len`, the message's length, if the frame is whole. Otherwise returns the error for a broken frame.
 #[inline(always)]
 pub(crate) fn message_len(len: usize, whole: bool) -> Result<usize, DecodeError> {
     if whole {

@@ -54,7 +54,7 @@ pub enum DecodeResult {
 }
 
 impl Default for DecoderState {
-    /// Makes the state before the first byte of a stream: `Idle`.
+    /// Returns `Idle`, the state before the first byte of a stream.
     ///
     /// ```
     /// use jcobs::DecoderState;
@@ -67,7 +67,7 @@ impl Default for DecoderState {
 }
 
 impl DecoderState {
-    /// Returns the state after the code of a block was fed, and before the other bytes of the block are fed.
+    /// Returns the state in which only the code of a block has been fed, and none of the block's other bytes.
     fn opened(code: u8) -> DecoderState {
         if code == 255 {
             DecoderState::GrabChain(254)
@@ -108,15 +108,16 @@ impl DecoderState {
 
     /// Decodes the next byte of a stream, and returns the result for this byte. The sentinel is the byte 0.
     ///
-    /// - For a sentinel, the result is `DataComplete` if the last block has all bytes that its code counts, and
-    ///   `NoData` if no frame has begun. After each sentinel the state is `Idle`.
+    /// - For a sentinel, the result is `DataComplete` if no byte of the last block is missing, and `NoData` if no frame
+    ///   has begun. After each sentinel the state is `Idle`.
     /// - For the first code of a frame, the result is `DataStart`.
     /// - For a code after a full block, the result is `NoData`. For a code after any other block, the result is
     ///   `DataContinue(0)`, because a zero joins the two blocks.
     /// - For a byte inside a block, the result is `DataContinue` with this byte.
     ///
     /// Every state has a result for every byte, even a state that no frame leads to, such as `Grab(255)`. The rules for
-    /// blocks are those of the paper by Cheshire and Baker; the names of the results are those of the crate `cobs`.
+    /// blocks are those of the paper by Cheshire and Baker. The names of the results are those of the Rust crate
+    /// `cobs`.
     ///
     /// # Errors
     /// `InvalidFrame` for a sentinel inside a block. The `decoded_bytes` of this error is always 0 here, because the

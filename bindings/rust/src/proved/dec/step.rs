@@ -1,5 +1,5 @@
 // Made by bindings/rust/translate.py from `crates/cobs/src/dec/step.rt`: change that file, and run it again.
-//! The step of a streaming decoder for one byte, and a loop that makes one step for each byte.
+//! The step that a streaming decoder makes for one byte, and a loop that makes one step for each byte.
 
 use crate::proved::block::FULL;
 use crate::proved::dec::frame_decoder::PieceEnd;
@@ -33,7 +33,7 @@ impl UnbufferedDecoder {
         }
         // No byte of a block is missing here. If a piece has begun and its last block isn't full, `joint` isn't 0. If a
         // piece has begun and its last block is full, `written` isn't 0, because the bytes of that block were written.
-        // So if both are 0, no piece has begun.
+        // So if `joint` and `written` are both 0, no piece has begun.
         if ended.written == 0 && ended.joint == 0 {
             Ok(None)
         } else {
@@ -44,8 +44,8 @@ impl UnbufferedDecoder {
     /// Decodes a nonzero byte of a piece into the buffer, and returns how many decoded bytes of the piece the buffer
     /// then holds. If the output of the piece is too long for the buffer, the function returns the buffer's length.
     ///
-    /// For a nonzero byte, [`feed`](Self::feed) makes the same step. For a zero, which ends a piece, call `feed`: if
-    /// you pass a zero to `take_byte`, the results for the open piece and the bytes of the buffer are unspecified.
+    /// For a nonzero byte, [`feed`](Self::feed) makes the same step. Pass a zero, which ends a piece, to `feed`. If you
+    /// pass a zero to `take_byte`, the results for the open piece and the bytes of the buffer are unspecified.
     ///
     /// ```
     /// use jcobs::UnbufferedDecoder;
@@ -58,16 +58,18 @@ impl UnbufferedDecoder {
     /// assert_eq!(decoder.feed(&mut buffer, 0), Ok(Some(2)));
     /// assert!(buffer.starts_with(&[7, 8]));
     /// ```
-    // The case of a byte inside a block has a separate return, whose value needs no comparison with the buffer's
-    // length. So compilers generate fewer instructions for a call with one byte than if all cases shared one return.
+    // The case of a byte inside a block has a separate return, because the returned value needs no comparison with the
+    // buffer's length in this case. With one return for all cases, compilers generate more instructions for a call with
+    // one byte.
     #[inline(always)]
     pub fn take_byte(&mut self, dest: &mut [u8], byte: u8) -> usize {
         let room = dest.len();
         if self.too_long != 0 {
             return room;
         }
-        // `written` is read only once, here; otherwise compilers would read it again after each write to the buffer.
-        // Each case writes its byte itself, because it is slower to choose the byte first and to write it in one place.
+        // `written` is read only once, here, because otherwise compilers would read it again after each write to the
+        // buffer. Each case writes its byte itself: it would be slower to choose the byte first and then to write it in
+        // one place.
         let mut at = self.written;
         if self.missing != 0 {
             if at < room {
@@ -91,7 +93,8 @@ impl UnbufferedDecoder {
         // For a zero, which no caller should pass, the subtraction wraps.
         self.missing = byte.wrapping_sub(1);
         self.joint = joint_after(byte);
-        // `at` is greater than `room` only if the caller has passed another buffer, or has changed the decoder's numbers.
+        // `at` is greater than `room` only if the caller has passed another buffer, or has changed the decoder's
+        // numbers.
         at.min(room)
     }
 
@@ -108,10 +111,10 @@ impl UnbufferedDecoder {
         Ok(None)
     }
 
-    /// Decodes bytes of a stream of frames for `sentinel`, one byte at a time. The function stops after the sentinel
-    /// that ends the first piece; if no piece ends, it decodes all bytes. For the sentinel 0, the effect and the result
-    /// are those of [`feed_piece`](Self::feed_piece). The function doesn't search ahead or copy slices, so its code is
-    /// small, and it is fast for a few bytes.
+    /// Decodes the next bytes of a stream, one byte at a time. The frames of the stream were encoded with `sentinel`.
+    /// The function stops after the sentinel that ends the first piece. If no piece ends, it decodes all bytes. For the
+    /// sentinel 0, the effect and the result are those of [`feed_piece`](Self::feed_piece). The function doesn't search
+    /// ahead or copy slices, so its code is small, and it is fast for a few bytes.
     ///
     /// ```
     /// use jcobs::{PieceEnd, UnbufferedDecoder};
@@ -131,7 +134,7 @@ impl UnbufferedDecoder {
         bytes: &[u8],
         sentinel: u8,
     ) -> Option<(PieceEnd, usize)> {
-        // The loop changes `here`, a copy of the decoder, which stays in registers. If the loop changed the decoder
+        // The loop changes `here`, a copy of the decoder that stays in registers. If the loop changed the decoder
         // itself, compilers would read the fields again after each byte that is written.
         let mut here = *self;
         let mut taken = 0;
@@ -159,8 +162,8 @@ impl UnbufferedDecoder {
                 return Some((PieceEnd::TooLong, taken));
             }
         }
-        // The fields are assigned one by one, because for an assignment of the whole decoder, rustc needs 24 bytes more
-        // for a push on a Cortex-M4.
+        // The fields are assigned one by one. If the whole decoder is assigned, rustc needs 24 bytes more for a push on
+        // a Cortex-M4.
         self.written = here.written;
         self.missing = here.missing;
         self.joint = here.joint;

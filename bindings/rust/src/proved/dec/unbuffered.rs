@@ -10,13 +10,13 @@ use crate::proved::find::{front_len, leading_zeros, position_or_len};
 /// Decodes a stream of frames, each ended by a zero, into a buffer that the caller passes to each call.
 ///
 /// The `feed` of this decoder returns the same results as that of [`CobsDecoder`](crate::CobsDecoder). An `UnbufferedDecoder` has no buffer
-/// of its own, only a few numbers. So a program can use the buffer for other data between two pieces, and a decoder can
-/// be in a struct together with its buffer, or be passed to another language.
+/// of its own, only a few numbers. So a program can use the buffer for other data between two pieces. A decoder can be
+/// in a struct together with its buffer, or be passed to code in another language.
 ///
 /// A piece is open from its first byte to the zero that ends it. While a piece is open, the caller must pass the same
-/// buffer to each call, and must not change the buffer between two calls. If the caller passes another buffer, of any length,
-/// each call is still safe: no call panics or returns a message that is longer than the buffer. But the results for
-/// that piece, and the bytes of the buffer, are then unspecified.
+/// buffer to each call, and must not change the buffer between two calls. If the caller passes another buffer, of any
+/// length, each call is still safe: no call panics or returns a message that is longer than the buffer. But the results
+/// for that piece, and the bytes of the buffer, are then unspecified.
 ///
 /// ```
 /// use jcobs::UnbufferedDecoder;
@@ -31,9 +31,9 @@ use crate::proved::find::{front_len, leading_zeros, position_or_len};
 ///
 /// A decoder consists of four numbers, and has the layout of a C struct. All four numbers are 0 before a piece begins.
 /// Every call is safe, whatever the numbers are.
-// No number says whether a piece has begun, because the step for a nonzero byte doesn't need to know this: `missing`
-// says whether the byte is a code, and `joint` says whether the output has a zero before the block of this code. The
-// first code of a piece is decoded like a code after a full block: the output has no zero before the first block.
+// No number says whether a piece has begun, because the step for a nonzero byte doesn't depend on this. `missing` says
+// whether the byte is a code. `joint` says whether the output has a zero before the block of this code. The first code
+// of a piece is decoded like a code after a full block: the output has no zero before the first block.
 #[repr(C)]
 #[derive(Debug, Clone, Copy, PartialEq, Eq, Hash)]
 pub struct UnbufferedDecoder {
@@ -41,8 +41,8 @@ pub struct UnbufferedDecoder {
     pub written: usize,
     /// How many bytes of the open block are still missing.
     pub missing: u8,
-    /// Not 0 if the piece has begun, and the code of its last block so far is less than 255. If another block follows,
-    /// the output then has a zero between the bytes of the two blocks.
+    /// Not 0 if a piece has begun and the code of its last block so far is less than 255. If another block follows this
+    /// block, the output has a zero between the bytes of the two blocks.
     pub joint: u8,
     /// Not 0 if the piece's output is too long for the buffer.
     pub too_long: u8,
@@ -110,8 +110,8 @@ impl UnbufferedDecoder {
     }
 
     /// Decodes the next byte of the stream, with `dest` as the buffer. The results and errors are those of
-    /// [`CobsDecoder::feed`](crate::CobsDecoder::feed). As long as the output of the piece fits the buffer, the byte
-    /// has the same effect on the decoder's state as on a [`DecoderState`](crate::DecoderState).
+    /// [`CobsDecoder::feed`](crate::CobsDecoder::feed). As long as the output of the piece fits the buffer, the fed
+    /// byte changes the decoder's state in the same way as it changes a [`DecoderState`](crate::DecoderState).
     ///
     /// ```
     /// use jcobs::UnbufferedDecoder;
@@ -161,7 +161,8 @@ impl UnbufferedDecoder {
         let mut at = 0;
         while at < bytes.len() {
             at += self.take_at_once(dest, &bytes[at..]);
-            // The byte at `at` is a zero, or a byte of a piece that is too long. Without vectors it may be any byte.
+            // The byte at `at` is a zero, or a byte of a piece that is too long. On a target without vectors, it may be
+            // any byte.
             if at < bytes.len() {
                 let parsed_size = at + 1;
                 match self.feed(dest, bytes[at]) {
@@ -227,10 +228,10 @@ impl UnbufferedDecoder {
         Some((last, taken + 1))
     }
 
-    /// Decodes the bytes before the first zero that ends a piece, and returns the index of this zero. If no piece ends in
-    /// `bytes`, decodes all bytes and returns their number. The caller ensures that there is at least one byte.
-    // Not inlined, so that `feed_piece` doesn't have to save registers if the piece is short. The result is only a
-    // number, because a number is returned in a register.
+    /// Decodes the bytes before the first zero that ends a piece, and returns the index of this zero. If no piece ends
+    /// in `bytes`, decodes all bytes and returns their number. The caller ensures that there is at least one byte.
+    // This function isn't inlined, so that `feed_piece` doesn't have to save registers if the piece is short. The
+    // result is only a number, because a number is returned in a register.
     #[inline(never)]
     fn take_to_end(&mut self, dest: &mut [u8], bytes: &[u8]) -> usize {
         let start = self.zeros_outside(bytes);
@@ -241,9 +242,9 @@ impl UnbufferedDecoder {
         self.pass_to_end(dest, bytes, taken)
     }
 
-    /// Returns how many zeros `bytes` begins with, if no piece has begun: these zeros end no piece. Returns 0 if a
-    /// piece has begun. Some serial lines carry many zeros while nothing is sent. The caller ensures that there is at
-    /// least one byte.
+    /// Returns the number of zeros at the front of `bytes` if no piece has begun: these zeros end no piece. If a piece
+    /// has begun, the function returns 0. Some serial lines carry many zeros while no frame is sent. The caller ensures
+    /// that there is at least one byte.
     #[inline(always)]
     fn zeros_outside(&self, bytes: &[u8]) -> usize {
         if bytes[0] == 0 && self.is_idle() {
@@ -253,10 +254,10 @@ impl UnbufferedDecoder {
         }
     }
 
-    /// Skips the rest of a piece that is too long for the buffer: returns the index of the first zero from index `start`
-    /// on, or the number of bytes if there is no zero. The caller ensures that the buffer has no room for the output of
-    /// the byte at index `start`.
-    // Not inlined, so that `take_to_end` needs fewer registers.
+    /// Skips the rest of a piece that is too long for the buffer. Returns the index of the first zero from index
+    /// `start` on, or the number of bytes if there is no such zero. The caller ensures that the buffer has no room for
+    /// the output of the byte at index `start`.
+    // This function isn't inlined, so that `take_to_end` needs fewer registers.
     #[inline(never)]
     fn pass_to_end(&mut self, dest: &mut [u8], bytes: &[u8], start: usize) -> usize {
         self.take_byte(dest, bytes[start]);

@@ -11,9 +11,10 @@ use crate::proved::find::{leading_zeros, len_without_end};
 /// Decodes the first frame of the source into `dest`, and returns how many bytes of the source were consumed and how
 /// many bytes the message has.
 ///
-/// Leading zeros are skipped. The frame ends at the next zero or at the source's end, and the bytes after that zero
-/// have no effect. The first `frame_size` bytes of `dest` are the message, and the other bytes of `dest` are as they
-/// were. `parsed_size` counts the skipped zeros, the frame, and the zero after the frame if there is one.
+/// Leading zeros are skipped. The frame ends at the next zero, or at the source's end if no other zero follows. The
+/// bytes after the next zero have no effect. The first `frame_size` bytes of `dest` are the message, and the other
+/// bytes of `dest` are as they were. `parsed_size` counts the skipped zeros, the frame, and the zero after the frame if
+/// there is one.
 ///
 /// # Errors
 ///
@@ -22,10 +23,9 @@ use crate::proved::find::{leading_zeros, len_without_end};
 /// - `TargetBufTooSmall` if the frame decodes to more bytes than `dest` has. `dest` is then filled with the first
 ///   decoded bytes.
 /// - `InvalidFrame` if the frame breaks off inside a block. `dest` then begins with the decoded bytes, including those
-///   of the broken block, and `decoded_bytes` is the number of decoded bytes. The other bytes of `dest` are as they
-///   were.
+///   of the broken block. `decoded_bytes` is the number of these bytes. The other bytes of `dest` are as they were.
 ///
-/// The format is that of Cheshire and Baker's paper; the results for a broken frame are a choice of this library.
+/// The format is that of Cheshire and Baker's paper. The results for a broken frame are a choice of this library.
 pub fn decode(source: &[u8], dest: &mut [u8]) -> Result<DecodeReport, DecodeError> {
     if !has_vectors() {
         return decode_each(source, dest);
@@ -36,7 +36,7 @@ pub fn decode(source: &[u8], dest: &mut [u8]) -> Result<DecodeReport, DecodeErro
     decode_long(source, dest)
 }
 
-/// Decodes a source of any length as [`decode`] does; [`decode_short`] decodes only short frames.
+/// Decodes a source of any length as [`decode`] does. ([`decode_short`] decodes only short frames.)
 #[inline(never)]
 fn decode_long(source: &[u8], dest: &mut [u8]) -> Result<DecodeReport, DecodeError> {
     if source.is_empty() {
@@ -60,12 +60,13 @@ fn decode_long(source: &[u8], dest: &mut [u8]) -> Result<DecodeReport, DecodeErr
     })
 }
 
-/// Decodes a short frame as [`decode`] does. For any other source, returns `None` and leaves `dest` as it was.
+/// Decodes a short frame as [`decode`] does. If the conditions below aren't met, returns `None` and leaves `dest` as it
+/// was.
 ///
-/// A source is decoded if it consists of `n` nonzero bytes, with or without one zero after them. The number `n` must be
-/// from 2 to 65, and `dest` must have at least `n - 1` bytes. If the target has SIMD vectors, [`decode`] calls this
-/// function first. `decode_short` and the functions of this library that it calls are marked `#[inline(always)]`, so a
-/// caller decodes a short frame without a function call.
+/// The source must consist of `n` nonzero bytes, with or without one zero after them. The number `n` must be from 2 to
+/// 65, and `dest` must have at least `n - 1` bytes. If the target has SIMD vectors, [`decode`] calls this function
+/// first. `decode_short` and the functions of this library that it calls are marked `#[inline(always)]`, so a caller
+/// decodes a short frame without a function call.
 #[inline(always)]
 pub fn decode_short(source: &[u8], dest: &mut [u8]) -> Option<Result<DecodeReport, DecodeError>> {
     if source.is_empty() {

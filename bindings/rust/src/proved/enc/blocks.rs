@@ -10,15 +10,15 @@ use crate::proved::cobs_bytes::window::{
 use crate::proved::enc::UnbufferedEncoder;
 use crate::proved::find::position_or_len;
 
-/// If there are fewer bytes than this number, they are encoded one by one. In the Rust crate this is faster than
-/// copying a window. `push_few` accepts at most this number of bytes.
+/// If `append_short` gets fewer bytes than this number, it encodes them one by one. In the Rust crate `jcobs`, this is
+/// faster than copying a window. `push_few` encodes one by one too, and accepts up to this number of bytes.
 pub(crate) const APPEND_EACH_BELOW: usize = 8;
 
 /// The mask of a window that has only zeros.
 const ALL_ZEROS: u64 = 0xffff_ffff;
 
-/// Returns the state of an encoder whose open block begins at index `index`, and whose next byte belongs at index
-/// `next`.
+/// Returns the state of an encoder whose open block begins at index `index`, and which writes the next byte at index
+/// `next`. `full` is 1 if the frame so far ends with a full block, and otherwise 0.
 #[inline(always)]
 fn encoder_at(index: usize, next: usize, full: u8) -> UnbufferedEncoder {
     let code = (next - index) as u8;
@@ -29,8 +29,8 @@ fn encoder_at(index: usize, next: usize, full: u8) -> UnbufferedEncoder {
     }
 }
 
-/// Returns true if `len` is at least 1 and at most the length of a window, and `len` more bytes can't fill the open
-/// block.
+/// Returns whether `len` is from 1 to the length of a window, and the open block can't become full with `len` more
+/// bytes.
 #[inline(always)]
 pub(crate) fn fits_window_and_block(encoder: UnbufferedEncoder, len: usize) -> bool {
     0 < len && len <= WINDOW && encoder.taken as usize + len < FULL_BLOCK_BYTES
@@ -38,7 +38,7 @@ pub(crate) fn fits_window_and_block(encoder: UnbufferedEncoder, len: usize) -> b
 
 /// Closes the open block at the first zero that the mask marks, and writes the block's code. Returns the index of the
 /// next code, and the mask without the bit of that zero. No branch tests whether the mask marks a zero. If the mask
-/// marks no zero, the function still writes a byte at the place of the block's code, but the block stays open, and its
+/// marks no zero, the function still writes a byte where the block's code belongs. The block then stays open, and its
 /// code is written later.
 #[inline(always)]
 fn mark_first(dest: &mut [u8], index: usize, next: usize, zeros: u64) -> (usize, u64) {
@@ -50,7 +50,8 @@ fn mark_first(dest: &mut [u8], index: usize, next: usize, zeros: u64) -> (usize,
 }
 
 /// Closes a block at each zero that the mask marks, and writes the code of each of these blocks. Each iteration of the
-/// loop writes up to two codes, because a window may have many zeros. Returns the index of the next code.
+/// loop writes up to two codes, so that a window with many zeros needs fewer iterations. Returns the index of the next
+/// code.
 #[inline(always)]
 fn mark_zeros(dest: &mut [u8], index: usize, next: usize, zeros: u64) -> usize {
     let mut index = index;
@@ -89,10 +90,10 @@ pub(crate) fn append_few(
     encoder_at(index, next, 0)
 }
 
-/// Encodes a `source` of up to 32 bytes, which can't fill the open block. The function has few branches that a
-/// processor could mispredict: it calls `mark_first` twice before a branch depends on the number of zeros. If
-/// `test_for_none` is true, a branch first tests whether `source` has a zero. `push` passes true, because this test
-/// makes a push without zeros faster.
+/// Encodes all bytes of `source`. These are at most 32 bytes, and they can't fill the open block. The function has few
+/// branches that a processor could mispredict: it calls `mark_first` twice before a branch depends on the number of
+/// zeros. If `test_for_none` is true, a branch first tests whether `source` has a zero. `push` passes true, because
+/// this test makes a push of bytes without zeros faster.
 #[inline(always)]
 pub(crate) fn append_short(
     source: &[u8],
@@ -117,8 +118,9 @@ pub(crate) fn append_short(
     encoder_at(index, next + len, 0)
 }
 
-/// Encodes rows of 32 zeros at the front of `source`, as long as more than 32 bytes of `source` remain. For each zero,
-/// the function writes a code 1 to `dest`, from index `at` on. Returns how many codes it wrote.
+/// Encodes zeros at the front of `source`, 32 at a time, as long as the next 32 bytes are zeros and more than 32 bytes
+/// remain. For each zero, the function writes the code 1 to `dest`; the first of these codes is written at index `at`.
+/// Returns how many codes it wrote.
 #[inline(always)]
 fn write_codes_of_zeros(source: &[u8], dest: &mut [u8], at: usize) -> usize {
     let mut len = 0;
@@ -132,17 +134,17 @@ fn write_codes_of_zeros(source: &[u8], dest: &mut [u8], at: usize) -> usize {
 /// Encodes windows of 32 bytes from the front of `source`, as long as more than 32 bytes remain and no block becomes
 /// full. Returns how many bytes it encoded, and the encoder's state after these bytes.
 ///
-/// Each window is copied to the place of the next byte. If the bytes before the window's first zero fill the open
-/// block, the function closes this block and returns. The caller then copies the rest of the run in slices, because a
-/// run that fills one block often fills more blocks. If these bytes don't fill the open block, the function writes a
-/// code over each zero of the window, and the last block stays open for the next window. If the window has only zeros,
-/// rows of 32 zeros after it aren't copied: their codes are written 32 at a time. The bytes of `dest` after the frame
-/// don't change.
+/// Each window is copied to the index at which the frame's next byte belongs. If the bytes before the window's first
+/// zero fill the open block, the function closes this block and returns. The caller then copies the rest of the run in
+/// slices, because a run that fills one block often fills more blocks. If these bytes don't fill the open block, the
+/// function writes a code over each zero of the window, and the last block stays open for the next window. If the
+/// window consists of zeros, the windows of zeros after it aren't copied. Instead, the function writes the codes for
+/// their zeros, 32 codes at a time. The bytes of `dest` after the frame don't change.
 ///
-/// In the body of the function, the code of the open block belongs at `index`, and the window is copied to `next`. If
-/// the window has a zero, the first zero is copied to `place`, and the bytes of the open block end before `place`. If
-/// the window has no zero, they end before `next + 32`. A block has at most 255 bytes. So the open block doesn't become
-/// full if its bytes end before an index that is less than `index + 255`.
+/// In the body of the function, the code of the open block belongs at `index`, and the window is copied to `next`. The
+/// end of a block is the index after its last byte. If the window has a zero, its first zero is copied to `place`, and
+/// the open block's end is `place`. If the window has no zero, the open block's end is `next + 32`. A full block has
+/// 255 bytes. So the open block doesn't become full if its end is less than `index + 255`.
 #[inline(always)]
 fn append_windows(
     source: &[u8],
@@ -183,7 +185,7 @@ fn append_windows(
                 continue;
             }
         }
-        // The bytes before the window's first zero fill the open block.
+        // The bytes before the window's first zero, or all its bytes if it has no zero, fill the open block.
         dest[index] = FULL_CODE as u8;
         let end = index + FULL_CODE;
         return (read + (end - next), encoder_at(end, end + 1, 1));
@@ -191,9 +193,9 @@ fn append_windows(
     (read, encoder_at(index, next, 0))
 }
 
-/// Encodes the first run of `source`, which has `run` bytes, and the zero after the run if there is one. The bytes of
-/// each block, at most 254, are copied as one slice. Returns how many bytes it encoded, and the encoder's state after
-/// these bytes.
+/// Encodes the first run of `source`, and the zero after the run if there is one. The run has `run` bytes; the caller
+/// passes this number because it may have found the end of the run already. The bytes of each block, at most 254, are
+/// copied as one slice. Returns how many bytes it encoded, and the encoder's state after these bytes.
 #[inline(always)]
 fn append_long_run(
     source: &[u8],
@@ -221,7 +223,7 @@ fn append_long_run(
     if read == source.len() {
         return (read, encoder_at(index, next, full));
     }
-    // A zero follows the run. It ends the open block.
+    // A zero follows the run, and ends the open block.
     dest[index] = (next - index) as u8;
     (read + 1, encoder_at(next, next + 1, 0))
 }
@@ -274,10 +276,10 @@ pub(crate) fn append(
 }
 
 /// Writes the code of the open block, unless the frame ends with a full block, and returns the frame's length. Before
-/// the call, the byte in the code's place may have any value.
-// The test whether `index` is within the slice comes first, though `index` can be outside only after a full block.
-// Without this first test, compilers put the test whether the last block is full into the caller's loop over single
-// bytes. In the Rust crate with link-time optimization, that loop can then be half as fast.
+/// the call, the byte at the code's index may have any value.
+// First, the function tests whether `index` is within the slice, though `index` can be outside the slice only after a
+// full block. If this test didn't come first, compilers would move the other test, of `encoder.full`, into the caller's
+// loop over single bytes. With link-time optimization, this can halve that loop's speed in the Rust crate `jcobs`.
 #[inline(always)]
 pub(crate) fn close_block(dest: &mut [u8], encoder: &UnbufferedEncoder) -> usize {
     let index = encoder.index;
@@ -290,11 +292,11 @@ pub(crate) fn close_block(dest: &mut [u8], encoder: &UnbufferedEncoder) -> usize
 }
 
 /// Writes the code of the open block, unless the frame ends with a full block, and returns the frame's length, as
-/// [`close_block`] does. If the frame ends with a full block, the slice may have a byte after the frame. On a target
-/// with SIMD vectors, `close` then also stores this byte, with the value that the byte already has.
-// With this store, compilers keep the caller's loop over single bytes as it is written. If only an open block's code
-// were stored, this loop would be slower in the Rust crate on x86-64. On a target without vectors `close` calls
-// `close_block`, which needs fewer bytes of flash.
+/// [`close_block`] does. If the frame ends with a full block, `close` also stores a byte on a target with SIMD vectors:
+/// the byte of the slice after the frame, if there is one. This byte keeps its value.
+// Because of this store, compilers keep the caller's loop over single bytes as it is written. Without the store, that
+// loop is slower in the Rust crate `jcobs` on x86-64. On a target without vectors, `close` calls `close_block`, which
+// needs less flash.
 #[inline(always)]
 pub(crate) fn close(dest: &mut [u8], encoder: &UnbufferedEncoder) -> usize {
     if !has_vectors() {

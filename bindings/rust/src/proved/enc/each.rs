@@ -8,11 +8,11 @@ use crate::proved::error::DestBufTooSmallError;
 /// Encodes a message as [`encode`](crate::encode) does, but one byte at a time.
 ///
 /// Each iteration of the outer loop encodes at most as many bytes as the open block has room for, so the inner loop
-/// doesn't test for each byte whether the block is full. A full block is closed when another byte follows. The last
+/// needn't test for each byte whether the block is full. A full block is closed when another byte follows. The last
 /// block is closed after the loop, whether it is full or not.
 pub(crate) fn write_each(source: &[u8], dest: &mut [u8]) -> usize {
-    // The code of the open block belongs at `index`, and the next byte of the frame at `next`. The difference of these two
-    // indices is the code that the open block has so far.
+    // The code of the open block belongs at `index`, and the next byte of the frame at `next`. The difference between
+    // these two indices is the code that the open block has so far.
     let mut index = 0;
     let mut next = 1;
     let mut read = 0;
@@ -41,9 +41,9 @@ pub(crate) fn write_each(source: &[u8], dest: &mut [u8]) -> usize {
     next
 }
 
-/// Encodes a message as [`try_encode`](crate::try_encode) does, but one byte at a time. The code of this function is
-/// smaller and slower than that of `try_encode`; it is meant for small devices. The function reads the message twice
-/// only if `dest` is shorter than the longest frame of a message of the same length.
+/// Encodes a message as [`try_encode`](crate::try_encode) does, but one byte at a time. This function is meant for
+/// small devices: its machine code is smaller than that of `try_encode`, but slower. The function reads the message
+/// twice only if `dest` is shorter than the longest frame that a message of this length can have.
 ///
 /// # Errors
 /// The errors are those of [`try_encode`](crate::try_encode).

@@ -7,18 +7,18 @@ use crate::proved::max_encoding_overhead;
 
 /// Encodes a message in the buffer that holds it, and returns the length of the frame in bytes.
 ///
-/// The message has `len` bytes, and begins in `buffer` at the index that
-/// [`max_encoding_overhead`](crate::max_encoding_overhead) returns for `len`. The bytes before the message may have any
-/// values. After the call `buffer` begins with the frame that [`encode`](crate::encode) writes. Every byte of `buffer`
-/// after the frame stays as it was, even if the byte belongs to the message.
+/// The message has `len` bytes. It begins at index [`max_encoding_overhead(len)`](crate::max_encoding_overhead) of
+/// `buffer`. The bytes before the message may have any values. After the call, `buffer` begins with the frame that
+/// [`encode`](crate::encode) writes for this message. Every byte of `buffer` after the frame stays as it was, even if
+/// the byte belongs to the message.
 ///
-/// Precondition: `buffer` has at least as many bytes as [`max_encoding_length`](crate::max_encoding_length) returns for
-/// `len`. So the whole message lies within `buffer`.
+/// Precondition: the length of `buffer` is at least [`max_encoding_length(len)`](crate::max_encoding_length). So the
+/// whole message is within `buffer`.
 pub fn encode_in_place(buffer: &mut [u8], len: usize) -> usize {
     let before = max_encoding_overhead(len);
     let mut encoder = UnbufferedEncoder::new();
-    // The frame of the bytes that were read so far ends, at the latest, at the index of the byte that was read last. So the
-    // frame never overwrites a byte that wasn't read yet.
+    // The frame of the bytes read so far never extends past the last byte that was read. So the frame never overwrites
+    // a byte that hasn't been read yet.
     for taken in 0..len {
         let byte = buffer[before + taken];
         encoder.append_byte(buffer, byte);

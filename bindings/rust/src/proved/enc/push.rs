@@ -13,12 +13,13 @@ impl UnbufferedEncoder {
     /// An empty push changes nothing. The bytes of the buffer after the frame are never written.
     ///
     /// # Errors
-    /// `DestBufTooSmallError` in exactly these two cases:
+    /// Returns `DestBufTooSmallError` in exactly these two cases:
     ///
     /// - The encoded frame of all bytes pushed so far, including `bytes`, is longer than the buffer.
     /// - The encoder's state isn't possible in a buffer of this length.
     ///
-    /// Then neither the encoder nor the buffer has changed, so the caller may end the message, or push fewer bytes.
+    /// In both cases, neither the encoder nor the buffer has changed. In the first case, the caller may end the
+    /// message, or push fewer bytes.
     ///
     /// ```
     /// use jcobs::{DestBufTooSmallError, UnbufferedEncoder};
@@ -31,7 +32,7 @@ impl UnbufferedEncoder {
     /// assert_eq!(encoder.finalize(&mut buffer), Ok(3));
     /// assert_eq!(buffer, [3, 7, 8]);
     /// ```
-    // Inlined, so that a loop of short pushes keeps the encoder in registers.
+    // This function is inlined, so that a loop of short pushes keeps the encoder in registers.
     #[inline(always)]
     pub fn push(&mut self, dest: &mut [u8], bytes: &[u8]) -> Result<(), DestBufTooSmallError> {
         if !has_vectors() {
@@ -52,7 +53,8 @@ impl UnbufferedEncoder {
             self.set(append_short(bytes, dest, *self, true));
             return Ok(());
         }
-        // `try_append` gets a copy of the encoder, made field by field, so that the encoder itself stays in registers.
+        // `try_append` gets a copy of the encoder, so that the encoder itself stays in registers. The copy is made
+        // field by field.
         let mut reached = UnbufferedEncoder { ..*self };
         if !try_append(bytes, dest, &mut reached) {
             return Err(DestBufTooSmallError);
@@ -61,12 +63,12 @@ impl UnbufferedEncoder {
         Ok(())
     }
 
-    /// Ends the message, and returns the length of its encoded frame in bytes. The buffer begins with that frame, and
-    /// the encoder is ready for the next message. Every byte after the frame is as it was before this call.
+    /// Ends the message, and returns the length of its encoded frame in bytes. The buffer then begins with that frame,
+    /// and the encoder is ready for the next message. Every byte after the frame is as it was before this call.
     ///
     /// # Errors
-    /// `DestBufTooSmallError` if the encoder's state isn't possible in a buffer of this length. Then neither the
-    /// encoder nor the buffer has changed.
+    /// Returns `DestBufTooSmallError` if the encoder's state isn't possible in a buffer of this length. Then neither
+    /// the encoder nor the buffer has changed.
     ///
     /// ```
     /// use jcobs::{DestBufTooSmallError, UnbufferedEncoder};

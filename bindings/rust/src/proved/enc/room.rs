@@ -1,5 +1,5 @@
 // Made by bindings/rust/translate.py from `crates/cobs/src/enc/room.rt`: change that file, and run it again.
-//! Decides whether a frame fits, before any byte of it is written, and then encodes.
+//! Encodes only if the frame fits the buffer. This is tested before any byte of the frame is written.
 
 use crate::proved::block::FULL_BLOCK_BYTES;
 use crate::proved::enc::UnbufferedEncoder;
@@ -27,11 +27,12 @@ fn fits_each(taken: u8, bytes: &[u8], spare: usize) -> bool {
 }
 
 /// Returns whether `spare` bytes are enough for the overhead of every message of `len` bytes, that is, whether `len` is
-/// at most 254 times `spare`. For up to 254 bytes, one spare byte is always enough.
+/// at most 254 times `spare`. If `len` is at most 254, one spare byte is enough.
 ///
-/// A direct comparison could overflow. `len` is at most 254 times `spare` exactly if half of `len`, rounded up, is at
-/// most 127 times `spare`. The function adds `spare` to both sides of this second comparison, and divides both sides by
-/// 128. So it divides only by 2 and by 128, which a small processor does with shifts.
+/// The function doesn't compute 254 times `spare`, because this product could overflow. It uses an equivalent
+/// comparison: half of `len`, rounded up, is at most 127 times `spare`. It adds `spare` to both sides of this
+/// comparison, and then divides both sides by 128. So the function divides only by 2 and by 128. A small processor does
+/// these divisions with shifts.
 #[inline(always)]
 fn covers_overhead(len: usize, spare: usize) -> bool {
     len <= FULL_BLOCK_BYTES || (len - len / 2 + spare - 1) / 128 < spare
@@ -40,8 +41,8 @@ fn covers_overhead(len: usize, spare: usize) -> bool {
 /// Returns whether the frame fits the buffer after `bytes` are appended to an open block of `taken` bytes. `room` is
 /// the number of bytes from the open block's code to the end of the buffer. The function reads `bytes` only if their
 /// number doesn't decide whether the frame fits.
-// Inlined, because usually the number of bytes and `room` decide the result: for a short message, a call would cost
-// more than the comparisons.
+// The function is inlined, because the number of bytes and `room` usually decide the result. For a short message, a
+// call takes longer than these comparisons.
 #[inline(always)]
 pub(crate) fn has_room(taken: u8, bytes: &[u8], room: usize) -> bool {
     let held = taken as usize;
@@ -53,21 +54,21 @@ pub(crate) fn has_room(taken: u8, bytes: &[u8], room: usize) -> bool {
     covers_overhead(len, spare) || fits_each(taken, bytes, spare)
 }
 
-/// Tests whether `source` can be appended to an open block of `taken` bytes. Returns `Some` if the frame then still fits
-/// the buffer, and otherwise `None`. `room` is the number of bytes from the open block's code to the end of the buffer.
-/// The `Some` contains the length of the first run of `source`, so that the encoder needn't search for the end of this
-/// run again. If the function didn't search for the end of the first run, the `Some` contains 0.
+/// Tests whether `source` can be appended to an open block of `taken` bytes. Returns `Some` if the frame then still
+/// fits the buffer, and otherwise `None`. `room` is the number of bytes from the open block's code to the end of the
+/// buffer. The `Some` contains the length of the first run of `source`, so that the encoder needn't search for the end
+/// of this run again. If the function didn't search for the end of the first run, the `Some` contains 0.
 ///
-/// The function counts all full blocks except a full block at the end of the frame. It looks at the bytes that would
-/// fill the open block. If one of these bytes is a zero, the block doesn't become full, and the function continues
-/// after the last zero of these bytes. If none of these bytes is a zero, the function searches for the end of the run.
-/// The run fills the open block, and each further 254 bytes of the run fill another block.
+/// The function counts all full blocks except a full block at the end of the frame. In each step, it looks at the bytes
+/// that would fill the open block. If there is a zero among these bytes, the block doesn't become full, and the
+/// function continues after the last of these zeros. If there is no zero among these bytes, the function searches for
+/// the end of the run. The run then fills the open block, and each further 254 bytes of the run fill another block.
 #[inline(never)]
 fn fits(taken: u8, source: &[u8], room: usize) -> Option<usize> {
     if room < source.len() {
         return None;
     }
-    // `spare` bytes are for the open block's code, its `held` bytes, and one code after each full block.
+    // There are `spare` bytes for the open block's code, for its `held` bytes, and for one code after each full block.
     let spare = room - source.len();
     // The current run has `run` bytes before index `read`, and there are `counted` full blocks before this run.
     let held = taken as usize;
@@ -106,17 +107,17 @@ fn fits(taken: u8, source: &[u8], room: usize) -> Option<usize> {
 /// Appends `source` to the message as [`append`] does, if the frame then fits `dest`. Returns whether the frame fits;
 /// if it doesn't, nothing has changed.
 ///
-/// Usually the lengths of `source` and `dest` decide whether the frame fits, because among all messages of one length,
-/// those without zeros have the longest frames. [`fits`] is slower, so the function calls it only if the lengths don't
-/// decide. If [`fits`] has found the end of a long first run, the function doesn't search for this end again. The
-/// function isn't inlined, so that a short push doesn't save registers for it.
+/// Among all messages of one length, those without zeros have the longest frames. Usually `dest` has room even for such
+/// a frame, so the frame of `source` fits too. Otherwise the function calls [`fits`], which is slower. If [`fits`] has
+/// found the end of a long first run, the function doesn't search for this end again. The function isn't inlined, so
+/// that a short push doesn't save registers for it.
 #[inline(never)]
 pub(crate) fn try_append(source: &[u8], dest: &mut [u8], encoder: &mut UnbufferedEncoder) -> bool {
     // The encoder is copied field by field, here and below. The fields were stored one by one, so a single load of all
     // fields would have to wait for these stores.
     let start = UnbufferedEncoder { ..*encoder };
     let room = dest.len() - start.index;
-    // `len` is the number of bytes that the message has from the open block on.
+    // `len` is the number of message bytes in the open block and in `source`.
     let len = start.taken as usize + source.len();
     let mut run = 0;
     if room <= len || !covers_overhead(len, room - len) {

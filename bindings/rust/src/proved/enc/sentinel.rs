@@ -1,16 +1,16 @@
 // Made by bindings/rust/translate.py from `crates/cobs/src/enc/sentinel.rt`: change that file, and run it again.
-//! Encoders that write frames for a sentinel other than 0, and frames between two sentinels.
+//! Functions that encode with a sentinel other than 0, and functions that write a sentinel before and after the frame.
 
 use crate::proved::cobs_bytes::lanes::xor_bytes;
 use crate::proved::cobs_bytes::window::has_vectors;
 use crate::proved::enc::{encode_few, try_encode, try_encode_any, try_encode_each};
 use crate::proved::error::DestBufTooSmallError;
 
-/// Writes the encoded frame of `source` for `sentinel` to the front of `dest`, as [`encode_with_sentinel`](crate::encode_with_sentinel) does, if the
-/// frame fits `dest`. Returns the frame's length in bytes.
+/// Writes the encoded frame of `source` to the front of `dest`, as [`encode_with_sentinel`](crate::encode_with_sentinel) does, if the frame fits
+/// `dest`. Returns the frame's length in bytes.
 ///
 /// # Errors
-/// `DestBufTooSmallError` exactly if the frame is longer than `dest`. Then no byte of `dest` has changed.
+/// Returns `DestBufTooSmallError` if and only if the frame is longer than `dest`. Then no byte of `dest` has changed.
 #[inline]
 pub fn try_encode_with_sentinel(
     source: &[u8],
@@ -32,8 +32,8 @@ pub fn try_encode_with_sentinel(
 /// does, if all of them fit. Returns how many bytes it wrote.
 ///
 /// # Errors
-/// `DestBufTooSmallError` exactly if the frame and both sentinels together are longer than `dest`. Then no byte of
-/// `dest` has changed.
+/// Returns `DestBufTooSmallError` if and only if the frame and both sentinels together are longer than `dest`. Then no
+/// byte of `dest` has changed.
 pub fn try_encode_including_sentinels(
     source: &[u8],
     dest: &mut [u8],

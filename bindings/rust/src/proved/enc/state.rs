@@ -2,7 +2,7 @@
 //! The state machine of an encoder, without a buffer.
 
 /// The change that a byte of the message makes to the encoded output. Indices count bytes from the start of the output.
-/// The names of the variants are those of the crate `cobs`.
+/// The variants have the same names as in the Rust crate `cobs`.
 ///
 /// ```
 /// use jcobs::{EncoderState, PushResult};
@@ -59,8 +59,8 @@ pub struct EncoderState {
 }
 
 impl Default for EncoderState {
-    /// Makes the state before the first byte of a message. The open block begins with the placeholder at index 0, and
-    /// has no other bytes.
+    /// Makes the state that an encoder has before the first byte of a message. The open block consists of only the
+    /// placeholder at index 0.
     ///
     /// ```
     /// use jcobs::EncoderState;
@@ -77,8 +77,8 @@ impl Default for EncoderState {
 }
 
 impl EncoderState {
-    /// Returns whether another byte can be pushed. The result is true if, for every value of this byte, the index at
-    /// which a block after it would begin fits a `usize`.
+    /// Returns whether another byte can be pushed, whatever its value is. It can be pushed if the index of a block that
+    /// begins after this byte would fit a `usize`.
     ///
     /// ```
     /// use jcobs::EncoderState;
@@ -140,7 +140,7 @@ impl EncoderState {
 
 /// Returns the code of a full block.
 // The function is marked cold, because compilers assume that a branch to a cold function is rarely taken. Without this
-// mark, compilers would compute the results for all three cases and choose one without a branch, which is slower.
+// mark, compilers compute the results of all three cases, and then choose one of them without a branch. That is slower.
 #[cold]
 #[inline(never)]
 fn full_code() -> u8 {

@@ -1,5 +1,5 @@
 // Made by bindings/rust/translate.py from `crates/cobs/src/enc/step.rt`: change that file, and run it again.
-//! The encoder, byte by byte: the step for one byte of the message, and a loop over the bytes of a push.
+//! Encodes byte by byte: the step for one byte of the message, and a loop over the bytes of a push.
 
 use crate::proved::block::{FULL_BLOCK_BYTES, FULL_CODE};
 use crate::proved::enc::UnbufferedEncoder;
@@ -10,12 +10,12 @@ use crate::proved::error::DestBufTooSmallError;
 impl UnbufferedEncoder {
     /// Encodes the next byte of the message, and returns the length in bytes that the frame has if the message ends
     /// with this byte. The caller ensures that there is room for the byte.
-    // This function calls no other function, so that the variables of the loop of `encode_in_place` stay in registers.
-    // In each case the byte at index `next` is the last byte of the frame.
+    // This function calls no other function, so that the loop in `encode_in_place` keeps its variables in registers. In
+    // all cases, the byte at index `next` is the last byte of the frame.
     #[inline(always)]
     pub(crate) fn append_byte(&mut self, dest: &mut [u8], byte: u8) -> usize {
-        // `code` is the code of the open block before this byte. If the byte joins this block, the block then has `code`
-        // bytes after its code, so `taken` becomes `code`. If the byte ends the block, `taken` becomes 0.
+        // `code` is the code of the open block before this byte. If the byte joins this block, the block then has
+        // `code` bytes after its code, so `taken` becomes `code`. If the byte ends the block, `taken` becomes 0.
         let index = self.index;
         let mut code = self.taken as usize + 1;
         let next = index + code;
@@ -42,9 +42,9 @@ impl UnbufferedEncoder {
     /// The effect and the result are those of a [`push`](UnbufferedEncoder::push) of this one byte.
     ///
     /// # Errors
-    /// `DestBufTooSmallError` if the encoded frame of the message up to and including this byte is longer than the
-    /// buffer, or if the encoder's state isn't possible in a buffer of this length. Then neither the encoder nor the
-    /// buffer has changed.
+    /// Returns `DestBufTooSmallError` if the encoded frame of the message up to and including this byte is longer than
+    /// the buffer, or if the encoder's state isn't possible in a buffer of this length. In both cases, neither the
+    /// encoder nor the buffer has changed.
     ///
     /// ```
     /// use jcobs::{DestBufTooSmallError, UnbufferedEncoder};
@@ -83,21 +83,21 @@ impl UnbufferedEncoder {
         let room = dest.len();
         let code = self.taken as usize + 1;
         // An open block has a code of at most 254; the code is greater only if the caller has changed the encoder's
-        // numbers. The tests read the field `index` itself, not a copy, so that rustc sees that no index of the step is
-        // out of bounds.
+        // numbers. The tests read the field `index` itself, not a copy of it, so that rustc sees that no index of the
+        // step is out of bounds.
         if FULL_BLOCK_BYTES < code || room < self.index || room - self.index <= code {
             return Err(DestBufTooSmallError);
         }
         Ok(self.append_byte(dest, byte))
     }
 
-    /// Encodes `bytes` as the next bytes of the message if there are 1 to 8 bytes, if the buffer has room for them, and
-    /// if they can't fill the open block. Returns whether it encoded the bytes. If it returns false, nothing has
-    /// changed, and the caller passes the bytes to [`push`](UnbufferedEncoder::push).
+    /// Encodes `bytes` as the next bytes of the message if three conditions hold: there are 1 to 8 bytes, the buffer
+    /// has room for them, and they can't fill the open block. Returns whether it encoded the bytes. If it returns
+    /// false, nothing has changed, and the caller passes the bytes to [`push`](UnbufferedEncoder::push).
     ///
-    /// No branch tests whether a byte is a zero, because a processor could mispredict that branch. So for single bytes,
+    /// No branch tests whether a byte is a zero, because a processor could mispredict that branch. So for single bytes
     /// and for the fields of a record, `push_few` is faster than [`push`](UnbufferedEncoder::push) if zeros are at
-    /// random places. It is slower than `push` if zeros are rare.
+    /// random places. If zeros are rare, `push_few` is slower than `push`.
     ///
     /// ```
     /// use jcobs::UnbufferedEncoder;
@@ -123,8 +123,8 @@ impl UnbufferedEncoder {
 
     /// Encodes the next bytes of the message, one byte at a time.
     ///
-    /// The effect and the result are those of [`push`](UnbufferedEncoder::push). The code of `push_each` is smaller and
-    /// slower than that of `push`; it is meant for small devices.
+    /// The effect and the result are those of [`push`](UnbufferedEncoder::push). `push_each` is meant for small
+    /// devices: its machine code is smaller than that of `push`, but slower.
     ///
     /// # Errors
     /// The errors are those of [`push`](UnbufferedEncoder::push).
@@ -162,8 +162,8 @@ impl UnbufferedEncoder {
     }
 
     /// Encodes the next bytes of the message, one byte at a time. The caller ensures that there is room for the bytes.
-    // The loop changes local variables, which stay in registers, and every block is closed by the same lines. If the
-    // loop called `append_byte`, a small processor would need more instructions and more flash.
+    // The loop keeps its state in local variables, which stay in registers, and the same lines close every block. A
+    // loop that calls `append_byte` needs more instructions and more flash on a small processor.
     #[inline(always)]
     fn append_each(&mut self, dest: &mut [u8], bytes: &[u8]) {
         let mut index = self.index;
@@ -177,7 +177,7 @@ impl UnbufferedEncoder {
                 next += 1;
                 left -= 1;
             }
-            // A zero ends the block, and so does its 254th byte.
+            // A zero ends the open block. The 254th nonzero byte of the block ends it too.
             if byte == 0 || left == 0 {
                 dest[index] = (next - index) as u8;
                 index = next;
@@ -188,7 +188,7 @@ impl UnbufferedEncoder {
         let code = next - index;
         self.index = index;
         self.taken = (code - 1) as u8;
-        // If the open block has no byte, and the last byte isn't a zero, the last byte has filled a block.
+        // If the open block has only its code, and the last byte isn't a zero, then the last byte has filled a block.
         self.full = if code == 1 && bytes[bytes.len() - 1] != 0 {
             1
         } else {

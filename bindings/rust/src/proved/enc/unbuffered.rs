@@ -5,13 +5,13 @@
 ///
 /// This encoder writes the frame that [`CobsEncoder`](crate::CobsEncoder) writes, but it neither owns nor borrows the
 /// buffer. So a struct can contain both an encoder and its buffer. The encoder consists of three numbers, so it can be
-/// passed to another language. The numbers say how much of the frame is in the buffer. At the start of a message all
-/// three numbers are 0.
+/// passed to code in another language. The numbers say how much of the frame is in the buffer. At the start of a
+/// message all three numbers are 0.
 ///
 /// From the first push to the end of the message, the caller must pass the same buffer to each call, and must not
 /// change the buffer between two calls. If the caller passes another buffer, of any length, or sets the three numbers
 /// to any values, each call is still safe: no call panics, and no call returns a length greater than the buffer's
-/// length. But in these cases the bytes of the buffer are unspecified.
+/// length. But the content of the buffer is then unspecified.
 ///
 /// ```
 /// use jcobs::UnbufferedEncoder;
@@ -40,8 +40,8 @@ pub struct UnbufferedEncoder {
 }
 
 impl UnbufferedEncoder {
-    /// Makes an encoder for a new message. The buffer that you pass to the encoder needs at least one byte, because the
-    /// frame of the empty message has one byte.
+    /// Makes an encoder for a new message. The buffer that you pass to the encoder must have at least one byte, because
+    /// the frame of the empty message has one byte.
     ///
     /// ```
     /// use jcobs::UnbufferedEncoder;
