@@ -10,7 +10,7 @@ ghost use Rattle.cobs.specs.Piece.{IsWhole, is_whole, kept_output, output};
 ghost use Rattle.cobs.specs.Stream.{stream_outcomes, unended};
 ghost use Rattle.cobs.specs.declared.dec.frame_decoder.PieceEnd.{PieceEnd};
 
-/// The length of a frame, counted block by block.
+/// How to count the length of a frame, block by block.
 ///
 /// The length of an encoded frame is the sum of the lengths of its blocks. The first block stands for one of these:
 ///
@@ -149,7 +149,7 @@ pub fn law_18()
     ensures { FrameLaw }
 {}
 
-/// The kind of a frame, block by block.
+/// How to find the kind of a frame, block by block.
 ///
 /// A canonical frame is the frame that encoders write for its message. A single block is a canonical frame. A block
 /// followed by further bytes is a frame exactly if the further bytes are a frame. The whole frame is canonical exactly
@@ -180,7 +180,7 @@ pub fn law_19()
         → IsFrame (code ∷ bytes) → ⊥ }
 {}
 
-/// The output of a piece, block by block.
+/// How to find the output of a piece, block by block.
 ///
 /// A piece is whole if its last block is complete. The kept output of a piece is its output without the bytes of an
 /// incomplete last block. A single block is whole, and its output is its bytes without the code. A piece that consists
