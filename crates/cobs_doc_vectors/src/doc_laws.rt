@@ -194,7 +194,7 @@ pub fn encode_short(message: &[u8], dest: &mut [u8]) -> usize
     requires room { length message.now < length dest.old }
     ensures { result ≡ length message.now + 1 }
 {
-    law_15(); // The length of a frame, counted block by block
+    law_15(); // How to count the length of a frame, block by block
     encode(message, dest)
 }
 
@@ -237,7 +237,7 @@ pub fn is_canonical_behind(block: &[u8], frame: &[u8]) -> bool
     requires some { frame.now ≢ [] }
     ensures { IsTrue result → IsCanonical (block.now ++ frame.now) }
 {
-    law_19(); // The kind of a frame, block by block
+    law_19(); // How to find the kind of a frame, block by block
     frame_kind(frame) == FrameKind::Canonical
 }
 
@@ -246,7 +246,7 @@ pub fn decode_block<'a>(block: &'a [u8]) -> &'a [u8]
     requires { IsBlock block.now }
     ensures { result.now ≡ output block.now }
 {
-    law_20(); // The output of a piece, block by block
+    law_20(); // How to find the output of a piece, block by block
     &block[1..]
 }
 

@@ -78,7 +78,7 @@ pub fn frame_len(message: &[u8]) -> usize
     ensures { result ≡ encoded_len message.now }
 {
     law_4(); // The length of a frame, and its bound
-    law_15(); // The length of a frame, counted block by block
+    law_15(); // How to count the length of a frame, block by block
     // `closed` is the length of the closed blocks, and `run` is the number of bytes of the open block without its code.
     let mut closed = 0;
     let mut run = 0;
@@ -200,7 +200,7 @@ pub fn kind_by_code(piece: &[u8]) -> FrameKind
     ensures frame { (result ≡ FrameKind.NotAFrame) ↔ ¬ IsFrame piece.now }
     ensures canonical { (result ≡ FrameKind.Canonical) ↔ IsCanonical piece.now }
 {
-    law_19(); // The kind of a frame, block by block
+    law_19(); // How to find the kind of a frame, block by block
     let mut read = 0;
     let mut after_full = false;
     'by_block: loop {
@@ -230,7 +230,7 @@ pub fn decode_by_code(alloc: Global, piece: &[u8]) -> Result<(bool, Vec<u8>), Al
         (IsTrue found.0 × (found.1.items ≡ m)) ↔ Reads piece.now m) }
 {
     law_1(); // A frame reads as its output
-    law_20(); // The output of a piece, block by block
+    law_20(); // How to find the output of a piece, block by block
     let mut bytes = Vec::new(alloc);
     let mut read = 0;
     'by_block: loop {

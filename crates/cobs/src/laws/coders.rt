@@ -11,7 +11,7 @@ ghost use Rattle.cobs.specs.Piece.{IsWhole, is_whole, kept_output, output};
 ghost use Rattle.cobs.specs.Stream.{stream_outcomes, unended};
 ghost use Rattle.cobs.specs.declared.dec.frame_decoder.PieceEnd.{PieceEnd};
 
-/// The length of a frame, counted block by block.
+/// How to count the length of a frame, block by block.
 ///
 /// The length of an encoded frame is the sum of the lengths of its blocks. The first block stands for one of these:
 ///
@@ -150,7 +150,7 @@ pub fn law_18()
     ensures { FrameLaw }
 {}
 
-/// The kind of a frame, block by block.
+/// How to find the kind of a frame, block by block.
 ///
 /// A frame is canonical if it is the frame that encoders write for its message. A single block is a canonical frame. A
 /// block followed by further bytes is a frame if and only if the further bytes are a frame. This frame is canonical if
@@ -181,7 +181,7 @@ pub fn law_19()
         → IsFrame (code ∷ bytes) → ⊥ }
 {}
 
-/// The output of a piece, block by block.
+/// How to find the output of a piece, block by block.
 ///
 /// A piece is whole if its last block is complete. The kept output of a piece is its output without the bytes of an
 /// incomplete last block. A single block is whole, and its output is its bytes without the code. A piece that consists

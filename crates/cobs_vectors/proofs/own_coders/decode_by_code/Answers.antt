@@ -2,7 +2,7 @@
 -- (`Blocks`). If it is a block and more bytes, the iteration adds the bytes of this block to the output, and the rest
 -- of the output depends only on the bytes after the block (`whole_more`, `kept_more`), by `law_20`. The last block
 -- decides whether the piece is whole (`whole_end`, `kept_end`).
--- `law_20`: The output of a piece, block by block.
+-- `law_20`: How to find the output of a piece, block by block.
 use Rattle.std.proofs.Common.{◌≡◌, ◌≢◌, ◌∙◌, ◌++◌, ◌∷◌, ◌+◌, ◌-◌, ◌<◌, ◌≤◌, ◌==◌, [], false, true, ℕ, List, length, take, drop, get_or, refl, sym, ap, arith, append_assoc, append-nil}
 use Rattle.std.proofs.lemmas.Bool.{eq-eqb, ne_eqb, true≢false}
 use Rattle.std.proofs.lemmas.List.Elements.{All-from_get_or}

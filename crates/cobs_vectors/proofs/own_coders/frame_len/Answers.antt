@@ -2,7 +2,7 @@
 -- more closes the open block (`close_full`, `close_zero`) or joins it (`one_more`), by `law_15`. The bytes of the open
 -- block may be replaced by ones, so their number `run` is enough.
 -- `law_4`: The length of a frame, and its bound.
--- `law_15`: The length of a frame, counted block by block.
+-- `law_15`: How to count the length of a frame, block by block.
 use Rattle.std.proofs.Common.{◌≡◌, ◌≢◌, ◌<◌, ◌≤◌, ◌+◌, ◌∙◌, ℕ, List, [], ◌∷◌, ◌++◌, length, replicate, drop, drop-cons, get_or, sym, ap, add-one, arith, append_assoc, length-append}
 use Rattle.std.proofs.lemmas.List.{length-replicate}
 use Rattle.std.proofs.lemmas.List.Elements.{All-append, All-cons, All-nil, All-replicate}

@@ -1,7 +1,7 @@
 -- From block to block, the kind of the piece depends only on the bytes after the block (`frame_left`,
 -- `canonical_left`), by `law_19`. The last block decides: it breaks off, it is the lone block after a full block, or it
 -- is any other block (`one_left`, `lone_left`).
--- `law_19`: The kind of a frame, block by block.
+-- `law_19`: How to find the kind of a frame, block by block.
 use Rattle.std.proofs.Common.{◌≡◌, ◌≢◌, ◌↔◌, ◌++◌, ◌+◌, ◌-◌, ◌<◌, [], ℕ, List, length, drop, get_or, refl, sym, ap, subst, arith, length-drop}
 use Rattle.std.proofs.lemmas.Bool.{true≢false}
 use Rattle.std.proofs.lemmas.List.{drop_more}

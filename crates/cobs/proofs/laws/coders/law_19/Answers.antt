@@ -1,4 +1,4 @@
--- The kind of a frame, block by block: each clause is a lemma of `GrammarLemmas`.
+-- How to find the kind of a frame, block by block: each clause is a lemma of `GrammarLemmas`.
 use Rattle.cobs.proofs.format.GrammarLemmas.{IsCanonical-block, front-canonical, front-frame, short-frame}
 use Rattle.cobs.proofs.laws.coders.law_19.Goals as goal
 

@@ -1,4 +1,4 @@
--- The output of a piece, block by block: a whole block before other bytes by `front-whole` and `front-kept`, and a last
+-- How to find the output of a piece, block by block: a whole block before other bytes by `front-whole` and `front-kept`, and a last
 -- block by `KeptLemmas`.
 use Rattle.std.proofs.Common.{arith}
 use Rattle.cobs.proofs.decoding.KeptLemmas.{all-kept, block-whole, broken-part, front-kept, front-whole, kept-broken}
