@@ -1,4 +1,4 @@
--- The length of a frame, block by block: the clauses are lemmas of `LengthLemmas`, except `same`, which is
+-- How to count the length of a frame, block by block: the clauses are lemmas of `LengthLemmas`, except `same`, which is
 -- `same_start`.
 use Rattle.std.proofs.Common.{arith}
 use Rattle.cobs.proofs.format.LengthLemmas.{encoded_len-full, encoded_len-short, encoded_len-zero}
