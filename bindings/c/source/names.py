@@ -1,6 +1,6 @@
 """Names and comments of jcobs.c that replace those of the Rattle sources. They use the words of jcobs.h."""
 
-# Functions. Each other function keeps its name in Rattle, after jcobs_ or the name of its type.
+# Functions. A function that isn't listed keeps its name in Rattle, with jcobs_ or the name of its type before it.
 FUNCTIONS = {
     "UnbufferedDecoder::end": "jcobs_decoder_end_piece",
     "UnbufferedDecoder::feed_each": "jcobs_decoder_take_bytes",
@@ -26,7 +26,7 @@ FUNCTIONS = {
     "too_small": "jcobs_too_small_answer",
     "write_each": "jcobs_write_blocks",
 }
-# The calls of jcobs.h with which a part of jcobs.c begins, and the heading of this part.
+# For each part of jcobs.c, the call of jcobs.h with which the part begins, and the heading of the part.
 SECTIONS = {
     "jcobs_max_length": "Encoding a whole message",
     "jcobs_decode": "Decoding a whole frame",
@@ -34,8 +34,8 @@ SECTIONS = {
     "jcobs_encoder_reset": "Encoding a message that comes in chunks",
 }
 # Parameters and variables of each function; the names under "" apply to every function. The length of the slice `NAME` is
-# `NAME_len` if its bytes are there, and `NAME_size` if the slice is a buffer with room. A call of jcobs.h and the functions
-# that it calls use the same names.
+# called `NAME_size` if the slice is a buffer to write to, and otherwise `NAME_len`. A call of jcobs.h and the functions that
+# it calls use the same names.
 VARIABLES = {
     "": {"bytes_len": "len"},
     "UnbufferedDecoder::end": {"len": "buffer_size", "ended": "before"},
@@ -66,12 +66,12 @@ VARIABLES = {
     "try_encode_each": {"source": "message", "dest": "frame"},
     "write_each": {"source": "message", "dest": "frame", "len": "part_len"},
 }
-# Functions that only one call of jcobs.h calls, and that stay separate functions: inlined, the step would be a tenth slower on
+# Functions that are called only once, but stay separate functions: if they were inlined, the step would be a tenth slower on
 # an AVR.
 APART = {"encode_byte", "decode_zero"}
-# Functions for a byte that comes once in a piece, called by a function that takes each byte (JCOBS_RARE in top.c).
+# Functions that handle a byte that occurs once in a piece. A function that takes each byte calls them (JCOBS_RARE in top.c).
 RARE = {"decode_zero"}
-# Functions whose value replaces each call of them.
+# Functions whose calls are replaced by the value that the function returns.
 WRITTEN_OUT = {"UnbufferedDecoder::is_idle"}
 # Numbers that have a name.
 NUMBERS = {"254": "FULL_BLOCK_BYTES"}
@@ -83,8 +83,8 @@ ENDS = {
     "JCOBS_END_TOO_LONG": ("TooLong", "TargetBufTooSmall"),
 }
 # Comments: for each function, a text in its comments in Rattle, and the text that replaces it in C. The texts under "" apply to
-# every function. The words in backticks that are left are names of Rattle, which get their names in C. A name that could be read as
-# an ordinary word keeps its backticks.
+# every function. After these replacements, each name of Rattle in backticks is replaced by its name in C. A name that could be
+# read as an ordinary word keeps its backticks.
 COMMENTS = {
     "": [(" (This function is this library's own.)", ""), (" (This guarantee is this library's own.)", "")],
     "UnbufferedDecoder::end": [(
