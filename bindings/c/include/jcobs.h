@@ -107,11 +107,11 @@
  *
  * jcobs_decode, jcobs_decode_in_place and their forms with a sentinel don't need a sentinel after the frame. If there
  * is no sentinel, the frame ends at the end of the source, and consumed is the source's length. So if a frame was cut
- * off between two blocks, its whole blocks are decoded as a shorter frame, with the status OK. If your protocol ends
- * each frame with a sentinel, test whether source[consumed - 1] is the sentinel. This test also works after decoding in
- * place, because no call changes the sentinel or the bytes after it. The streaming decoder needs no such test: it
- * reports a frame only when the sentinel after the frame has arrived. COBS has no checksum: damage that turns a frame
- * into another frame isn't noticed.
+ * off between two blocks, the blocks before the cut are decoded as a shorter frame, with the status OK. If your
+ * protocol ends each frame with a sentinel, test whether source[consumed - 1] is the sentinel. This test also works
+ * after decoding in place, because no call changes the sentinel or the bytes after it. The streaming decoder needs no
+ * such test: it reports a frame only when the sentinel after the frame has arrived. COBS has no checksum: damage that
+ * turns a frame into another frame isn't noticed.
  *
  * This paragraph is about the built library, libjcobs.a. It isn't about jcobs.c, which you compile yourself. On x86-64
  * the built library needs x86-64-v2 (SSE4.2 and POPCNT). Most Intel processors since 2009 and most AMD processors since
@@ -233,10 +233,10 @@ typedef struct jcobs_encoder {
 /* Returns the greatest length that the frame of a message of message_len bytes can have, not counting a sentinel. This
  * length is message_len plus message_len / 254, rounded up. For the empty message the length is 1.
  *
- * The macro JCOBS_MAX_LENGTH has the value that the function returns. If the argument is a constant, the macro is a
- * constant expression, so it can be the length of an array. If the value doesn't fit a size_t, the macro wraps around,
- * but the function returns 0. The macro has the type size_t if the argument's type is unsigned and not wider than
- * size_t. The macro evaluates its argument more than once, and can't be used in #if. */
+ * The macro JCOBS_MAX_LENGTH has the same value as the function. If the argument is a constant, the macro is a constant
+ * expression, so it can be the length of an array. If the value doesn't fit a size_t, the macro wraps around, but the
+ * function returns 0. The macro has the type size_t if the argument's type is unsigned and not wider than size_t. The
+ * macro evaluates its argument more than once, and can't be used in #if. */
 #define JCOBS_MAX_LENGTH(message_len)                                                                                  \
     (sizeof(char) * (message_len) + sizeof(char) * (message_len) / 254 +                                               \
      (sizeof(char) * (message_len) % 254 != 0 || (message_len) == 0 ? 1 : 0))
@@ -260,8 +260,8 @@ JCOBS_API jcobs_answer jcobs_encode_terminated(const void *message, size_t messa
  * - TOO_SMALL, if and only if the frame and its zero don't fit: consumed and length are 0, and the buffer is as it
  *   was. */
 
-/* Encode like jcobs_encode and jcobs_encode_terminated, but XOR each byte of the frame with the given sentinel. The
- * second function then writes this sentinel after the frame, instead of a zero. */
+/* Encode like jcobs_encode and jcobs_encode_terminated, but XOR each byte of the frame with the given sentinel.
+ * jcobs_encode_terminated_with_sentinel then writes this sentinel after the frame, instead of a zero. */
 JCOBS_API jcobs_answer jcobs_encode_with_sentinel(const void *message, size_t message_len, void *frame,
                                                   size_t frame_size, unsigned char sentinel) JCOBS_READS(1, 2)
     JCOBS_WRITES(3, 4) JCOBS_CHECKED;
@@ -288,9 +288,10 @@ JCOBS_API jcobs_answer jcobs_decode(const void *source, size_t source_len, void 
     JCOBS_READS(1, 2) JCOBS_WRITES(3, 4) JCOBS_CHECKED;
 /* returns:
  * - OK: consumed counts the leading zeros, the frame and the zero after it; length is the length of the message;
- * - BROKEN: consumed is as for OK; length is the length of the frame's output, including the block that is cut off;
- * - TOO_SMALL, if the frame's output, including a block that is cut off, is longer than the buffer: consumed is as for
- *   OK; length is message_size. The buffer has the first bytes of the output;
+ * - BROKEN: consumed is the same as for OK; length is the length of the frame's output, including the block that is cut
+ *   off;
+ * - TOO_SMALL, if the frame's output, including a block that is cut off, is longer than the buffer: consumed is the
+ *   same as for OK; length is message_size. The buffer has the first bytes of the output;
  * - EMPTY, if the source has no bytes or only zeros: consumed is source_len, and length is 0. */
 
 /* Decodes a frame that was encoded with the given sentinel, and writes the message to the front of the buffer
@@ -303,9 +304,10 @@ JCOBS_API jcobs_answer jcobs_decode_with_sentinel(const void *source, size_t sou
     JCOBS_WRITES(3, 4) JCOBS_CHECKED;
 /* returns:
  * - OK: consumed counts the frame and the sentinel after it; length is the length of the message;
- * - BROKEN: consumed is as for OK; length is the length of the frame's output, without the block that is cut off;
- * - TOO_SMALL, if the frame's output, without a block that is cut off, is longer than the buffer: consumed is as for
- *   OK; length is message_size. The buffer has the first bytes of the output;
+ * - BROKEN: consumed is the same as for OK; length is the length of the frame's output, without the block that is cut
+ *   off;
+ * - TOO_SMALL, if the frame's output, without a block that is cut off, is longer than the buffer: consumed is the
+ *   same as for OK; length is message_size. The buffer has the first bytes of the output;
  * - EMPTY, if the source has no bytes: consumed and length are 0. */
 
 /* Decodes the frame at the front of the buffer in place. The frame ends at the first zero or at the end of the buffer.
@@ -314,7 +316,8 @@ JCOBS_API jcobs_answer jcobs_decode_with_sentinel(const void *source, size_t sou
 JCOBS_API jcobs_answer jcobs_decode_in_place(void *buffer, size_t buffer_len) JCOBS_CHANGES(1, 2) JCOBS_CHECKED;
 /* returns:
  * - OK: consumed counts the frame and the zero after it; length is the length of the message;
- * - BROKEN: consumed is as for OK; length is the length of the frame's output, without the block that is cut off;
+ * - BROKEN: consumed is the same as for OK; length is the length of the frame's output, without the block that is cut
+ *   off;
  * - EMPTY, if the buffer has no bytes: consumed and length are 0. */
 
 /* Decodes like jcobs_decode_in_place, but with the given sentinel. The call first XORs each byte of the frame with the
@@ -326,9 +329,9 @@ JCOBS_API jcobs_answer jcobs_decode_in_place_with_sentinel(void *buffer, size_t 
 
 /* Returns whether the bytes are a frame for the sentinel 0, and whether that frame is the one that encoders write. */
 JCOBS_API unsigned int jcobs_frame_kind(const void *bytes, size_t len) JCOBS_READS(1, 2) JCOBS_CHECKED;
-/* returns: one of enum jcobs_kind */
+/* returns: a value of the enum jcobs_kind */
 
-/* Resets the decoder to the initial state, from any state. */
+/* Resets the decoder from any state to the initial state. */
 JCOBS_API void jcobs_decoder_reset(jcobs_decoder *decoder) JCOBS_STATE;
 
 /* Decodes the next bytes of a stream in which a zero ends each frame. The call processes the bytes up to and including
@@ -345,9 +348,10 @@ JCOBS_API jcobs_answer jcobs_decoder_push(jcobs_decoder *decoder, void *buffer, 
 /* returns:
  * - OK: consumed counts the bytes up to and including the zero that ends the frame; length is the length of the
  *   message;
- * - BROKEN: consumed is as for OK; length is the length of the frame's output, including the block that is cut off;
- * - TOO_SMALL, if the frame's output, including a block that is cut off, is longer than the buffer: consumed is as for
- *   OK; length is buffer_size. The buffer has the first bytes of the output;
+ * - BROKEN: consumed is the same as for OK; length is the length of the frame's output, including the block that is cut
+ *   off;
+ * - TOO_SMALL, if the frame's output, including a block that is cut off, is longer than the buffer: consumed is the
+ *   same as for OK; length is buffer_size. The buffer has the first bytes of the output;
  * - MORE: consumed is len; length is the number of bytes of the unfinished message that are in the buffer. */
 
 /* Decodes one byte of a stream. The call has the same effect as jcobs_decoder_push with this byte, and is faster. */
@@ -369,7 +373,7 @@ JCOBS_API jcobs_answer jcobs_decoder_push_with_sentinel(jcobs_decoder *decoder, 
 JCOBS_API unsigned int jcobs_decoder_is_idle(const jcobs_decoder *decoder) JCOBS_STATE JCOBS_CHECKED;
 /* returns: 1 if no frame is open, and 0 if a frame is open */
 
-/* Resets the encoder to the initial state, from any state. */
+/* Resets the encoder from any state to the initial state. */
 JCOBS_API void jcobs_encoder_reset(jcobs_encoder *encoder) JCOBS_STATE;
 
 /* Encodes the next bytes of a message into the buffer. If these bytes don't fit, you can push fewer bytes, finish the
@@ -409,8 +413,8 @@ JCOBS_API jcobs_answer jcobs_encoder_finish_terminated(jcobs_encoder *encoder, v
  *   were. */
 
 /* End the message like jcobs_encoder_finish and jcobs_encoder_finish_terminated, but XOR each byte of the frame with
- * the given sentinel. The second function then writes this sentinel after the frame, instead of a zero. Push the
- * message with jcobs_encoder_push or jcobs_encoder_feed, whatever the sentinel is. */
+ * the given sentinel. jcobs_encoder_finish_terminated_with_sentinel then writes this sentinel after the frame, instead
+ * of a zero. Push the message with jcobs_encoder_push or jcobs_encoder_feed, whatever the sentinel is. */
 JCOBS_API jcobs_answer jcobs_encoder_finish_with_sentinel(jcobs_encoder *encoder, void *buffer, size_t buffer_size,
                                                           unsigned char sentinel) JCOBS_STATE
     JCOBS_WRITES(2, 3) JCOBS_CHECKED;

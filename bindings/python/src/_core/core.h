@@ -50,22 +50,23 @@ typedef struct {
     const char *names[3];
 } Signature;
 
-/* Writes the arguments of a call to `found`, in the order of the signature. An argument that isn't passed is NULL.
- * Returns 1, or raises TypeError and returns 0. */
+/* Writes the arguments of a call to `found`, in the order of the signature, and returns 1. An argument that isn't
+ * passed is NULL. On failure, raises TypeError and returns 0. */
 int arguments_of(const Signature *signature, PyObject *const *args, Py_ssize_t count, PyObject *names,
                  PyObject **found);
 
 /* Returns a pointer to the bytes of a bytes object, for calls of libjcobs. */
 unsigned char *start_of(PyObject *bytes);
 
-/* Converts an argument to a sentinel, and returns 1; or raises an error and returns 0. If the argument is NULL, the
- * sentinel is 0. */
+/* Converts an argument to a sentinel, and returns 1. If the argument is NULL, the sentinel is 0. On failure, raises an
+ * error and returns 0. */
 int sentinel_of(PyObject *number, unsigned char *result);
 
-/* Converts an argument to a length, and returns 1; or raises an error and returns 0. */
+/* Converts an argument to a length, and returns 1. On failure, raises an error and returns 0. */
 int length_of(PyObject *number, const char *name, size_t *result);
 
-/* Converts the arguments of a coder, max_length and sentinel, and returns 1; or raises an error and returns 0. */
+/* Converts max_length and sentinel, the arguments of a coder, and returns 1. On failure, raises an error and returns
+ * 0. */
 int coder_arguments(PyObject *args, size_t *max_length, unsigned char *sentinel);
 
 /* Releases the GIL if the input has at least LONG bytes. */
@@ -74,12 +75,13 @@ PyThreadState *release(size_t len);
 /* Takes the GIL back if it was released. */
 void restore(PyThreadState *thread);
 
-/* Returns a new bytes object of this length, whose bytes the caller writes; or raises MemoryError and returns NULL. */
+/* Returns a new bytes object of this length. The caller then writes the bytes. On failure, raises MemoryError and
+ * returns NULL. */
 PyObject *room_of(size_t len);
 
 /* Shortens a bytes object that room_of returned, and returns it. The stable ABI has no call that shortens a bytes
- * object, but a caller can set the size of an object. The memory after the new end stays unused. In a frame, at most 1
- * byte in 254 is unused. */
+ * object, but it lets a program set the size of an object. The memory after the new end stays unused. For a frame, at
+ * most 1 byte in 254 stays unused. */
 PyObject *cut(PyObject *bytes, size_t len);
 
 /* XORs each of the bytes at `from` with the sentinel, and writes the results to `to`. `to` may be `from`. */
@@ -93,7 +95,7 @@ jcobs_answer push(jcobs_decoder *decoder, unsigned char *buffer, size_t room, co
 /* Frees the object's memory, and then drops the object's reference to its class. */
 void free_object(PyObject *self);
 
-/* Returns a new object of the class, whose memory is zeroed; or raises MemoryError and returns NULL. */
+/* Returns a new object of the class, whose memory is zeroed. On failure, raises MemoryError and returns NULL. */
 void *new_object(PyTypeObject *type);
 
 /* A buffer for calls of libjcobs, with room for one message or frame. `busy` says whether a call is using it. */
@@ -103,14 +105,14 @@ typedef struct {
     int busy;
 } Buffer;
 
-/* Makes the buffer, and returns 1; or raises MemoryError and returns 0. */
+/* Makes the buffer, and returns 1. On failure, raises MemoryError and returns 0. */
 int buffer_make(Buffer *buffer, size_t len);
 
 /* Takes the buffer for a call, and returns 1. If another call is using the buffer, raises RuntimeError and returns 0.
  * The caller holds the GIL. */
 int buffer_take(Buffer *buffer, const char *coder);
 
-/* Returns a new object of an outcome's class, with this data; or raises an error and returns NULL. */
+/* Returns a new object of an outcome's class, with this data. On failure, raises an error and returns NULL. */
 PyObject *outcome_of(PyObject *class, PyObject *data);
 
 extern PyType_Spec outcome_spec;

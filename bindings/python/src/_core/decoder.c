@@ -37,7 +37,8 @@ static void decoder_dealloc(PyObject *self)
     free_object(self);
 }
 
-/* Pushes bytes to the decoder, up to and including the next sentinel. Releases the GIL if that sentinel is far away. */
+/* Pushes bytes to the decoder, up to and including the next sentinel. Releases the GIL if at least LONG bytes come
+ * before this sentinel. */
 static jcobs_answer decoder_step(Decoder *self, const unsigned char *bytes, size_t len)
 {
     int far = len >= LONG && memchr(bytes, self->sentinel, LONG) == NULL;
@@ -48,7 +49,7 @@ static jcobs_answer decoder_step(Decoder *self, const unsigned char *bytes, size
     return answer;
 }
 
-/* Appends the outcome of a piece to the list, and returns 0; or raises an error and returns -1. */
+/* Appends the outcome of a piece to the list, and returns 0. On failure, raises an error and returns -1. */
 static int decoder_append(Decoder *self, PyObject *list, PyObject *classes, jcobs_answer answer)
 {
     int at = answer.status == JCOBS_OK ? 0 : answer.status == JCOBS_BROKEN ? 1 : 2, done = -1;
@@ -79,7 +80,7 @@ static int have_turn(clock_t *turn)
     return PyErr_CheckSignals();
 }
 
-/* Decodes a chunk, and returns the list of outcomes; or raises an error and returns NULL. */
+/* Decodes a chunk, and returns the list of outcomes. On failure, raises an error and returns NULL. */
 static PyObject *decoder_outcomes(Decoder *self, PyObject *chunk, PyObject *classes)
 {
     size_t at = 0, stop = TURN, len = (size_t)PyBytes_Size(chunk);

@@ -20,7 +20,8 @@ static jcobs_answer decode_frame(const unsigned char *frame, size_t len, unsigne
     return push(&decoder, message, room, &sentinel, 1, sentinel);
 }
 
-/* Encodes the message into a new bytes object, and returns this object; or raises MemoryError and returns NULL. */
+/* Encodes the message into a new bytes object, and returns this object. On failure, raises MemoryError and returns
+ * NULL. */
 static PyObject *encoded(PyObject *message, unsigned char sentinel, int terminated)
 {
     size_t len = (size_t)PyBytes_Size(message), room = jcobs_max_length(len) + (size_t)terminated;
@@ -64,8 +65,8 @@ static PyObject *core_encode(PyObject *module, PyObject *const *args, Py_ssize_t
     return frame;
 }
 
-/* Decodes the first frame of the source into a new bytes object, and returns this object; or raises MemoryError and
- * returns NULL. */
+/* Decodes the first frame of the source into a new bytes object, and returns this object. On failure, raises
+ * MemoryError and returns NULL. */
 static PyObject *decoded(PyObject *source, unsigned char sentinel, unsigned int *status)
 {
     size_t len = (size_t)PyBytes_Size(source), room;
@@ -185,7 +186,7 @@ static PyObject *core_max_length(PyObject *module, PyObject *const *args, Py_ssi
     return PyLong_FromSize_t(jcobs_max_length(len));
 }
 
-/* The documentation of the functions. From the first line of each text, inspect.signature learns the arguments. The
+/* The documentation of the functions. inspect.signature reads the arguments from the first line of each text. The
  * functions of _plain.py have the same documentation; the tests compare the two texts. */
 static const char encode_document[] =
     "encode(data, *, sentinel=0, terminated=False)\n--\n\n"
@@ -228,7 +229,7 @@ static PyMethodDef functions[] = {
     {NULL, NULL, 0, NULL},
 };
 
-/* Adds a type to the module, and returns 0; or raises an error and returns -1. */
+/* Adds a type to the module, and returns 0. On failure, raises an error and returns -1. */
 static int add_type(PyObject *module, const char *name, PyType_Spec *spec)
 {
     PyObject *type = PyType_FromSpec(spec);

@@ -59,7 +59,8 @@ unsigned char *start_of(PyObject *bytes)
     return (unsigned char *)PyBytes_AsString(bytes);
 }
 
-/* Puts an argument that is passed by name in its place in `found`, and returns 1; or raises TypeError and returns 0. */
+/* Writes an argument that is passed by name to its place in `found`, and returns 1. On failure, raises TypeError and
+ * returns 0. */
 static int place(const Signature *signature, PyObject *name, PyObject *value, PyObject **found)
 {
     Py_ssize_t i = 0;

@@ -121,7 +121,7 @@ class AsyncFrameReader(Frames):
             return b""
 
     async def _take(self) -> bytes:
-        """Reads once, decodes the bytes, and returns them. At the end of the stream, returns b"".
+        """Reads once, and decodes the bytes. Returns the bytes that were read, or b"" at the end of the stream.
 
         Nothing is awaited between the read and the decoding.
         """

@@ -104,7 +104,7 @@ def read_port(port: Any, timeout: Optional[float], kept: Kept) -> bool:
 
 
 def read_port_by_its_timeout(port: Any, timeout: Optional[float], kept: Kept) -> bool:
-    """Does what `read_port` does, for a port without a descriptor: a port on Windows, or a port of rfc2217://."""
+    """Does what `read_port` does, but for a port without a descriptor: a port on Windows, or a port of rfc2217://."""
     waiting = port.in_waiting
     if waiting or timeout is None:
         return keep_some(kept, port, waiting)
@@ -117,10 +117,10 @@ def read_port_by_its_timeout(port: Any, timeout: Optional[float], kept: Kept) ->
 
 
 def read_port_at_a_socket(port: Any, timeout: Optional[float], kept: Kept) -> bool:
-    """Does what `read_port` does, for a port of socket://.
+    """Does what `read_port` does, but for a port of socket://.
 
-    If at least one byte is waiting, the `in_waiting` of such a port is 1, however many bytes are waiting. So this
-    function doesn't use `in_waiting`.
+    The `in_waiting` of such a port is 1 if any bytes are waiting, however many there are. So this function doesn't use
+    `in_waiting`.
     """
     own = port.timeout
     if not wait([port.fileno()], own if timeout is None else timeout):

@@ -218,7 +218,10 @@ class FrameReader(Frames):
         self._file.close()
 
     def _take(self, timeout: Optional[float]) -> Optional[bytes]:
-        """Reads once, decodes the bytes, and returns them. At the end of the stream returns b"", at a timeout None."""
+        """Reads once, and decodes the bytes.
+
+        Returns the bytes that were read, b"" at the end of the stream, or None at a timeout.
+        """
         self._check_arrived()
         if not self._arrived and not self._read(self._file, timeout, self._arrived):
             return None
