@@ -5,7 +5,7 @@
  * COBS encodes a message, which may contain any bytes, as a frame that never contains a certain byte value: the
  * sentinel. So the sentinel can mark the end of each frame on a serial line or in a file. The sentinel is 0, except in
  * the calls that have a parameter `sentinel`. The frame of a message of up to 254 bytes is 1 byte longer than the
- * message. The frame of a longer message has at most 1 extra byte for every 254 bytes of the message, rounded up.
+ * message. The frame of a longer message has at most 1 extra byte per 254 bytes of the message, rounded up.
  *
  * To receive frames in chunks of any size:
  *
@@ -331,7 +331,7 @@ JCOBS_API jcobs_answer jcobs_decode_in_place_with_sentinel(void *buffer, size_t 
 JCOBS_API unsigned int jcobs_frame_kind(const void *bytes, size_t len) JCOBS_READS(1, 2) JCOBS_CHECKED;
 /* returns: a value of the enum jcobs_kind */
 
-/* Resets the decoder from any state to the initial state. */
+/* Resets the decoder to the initial state, from any state. */
 JCOBS_API void jcobs_decoder_reset(jcobs_decoder *decoder) JCOBS_STATE;
 
 /* Decodes the next bytes of a stream in which a zero ends each frame. The call processes the bytes up to and including
@@ -373,7 +373,7 @@ JCOBS_API jcobs_answer jcobs_decoder_push_with_sentinel(jcobs_decoder *decoder, 
 JCOBS_API unsigned int jcobs_decoder_is_idle(const jcobs_decoder *decoder) JCOBS_STATE JCOBS_CHECKED;
 /* returns: 1 if no frame is open, and 0 if a frame is open */
 
-/* Resets the encoder from any state to the initial state. */
+/* Resets the encoder to the initial state, from any state. */
 JCOBS_API void jcobs_encoder_reset(jcobs_encoder *encoder) JCOBS_STATE;
 
 /* Encodes the next bytes of a message into the buffer. If these bytes don't fit, you can push fewer bytes, finish the
