@@ -235,8 +235,8 @@ static JCOBS_INLINE int jcobs_has_room(unsigned char taken, const unsigned char 
 }
 
 /* Writes the frame of the message, and returns its length. The code of the open block belongs at `index`, and the
- * next byte at `next`. No part has more bytes than the open block has room for, so no byte needs a test whether
- * the block is full. */
+ * next byte at `next`. No part has more bytes than the open block has room for, so the function doesn't test at
+ * each byte whether the block is full. */
 static size_t jcobs_write_blocks(const unsigned char *message, size_t message_len, unsigned char *frame)
 {
     /* The code of the open block belongs at `index`, and the next byte of the frame at `next`. The difference of
@@ -515,7 +515,7 @@ jcobs_answer jcobs_decode(const void *source, size_t source_len, void *message, 
 }
 
 /* Returns how many bytes come before the first zero, or the number of all bytes if there is no zero. The loop
- * tests four bytes in each round, so a byte costs half as many instructions as with one byte in each round. */
+ * tests four bytes in each round. A loop that tests one byte in each round would need twice as many instructions. */
 static JCOBS_APART size_t jcobs_length_to_zero(const unsigned char *bytes, size_t len)
 {
     const unsigned char *rest = bytes;
@@ -947,7 +947,7 @@ jcobs_answer jcobs_encoder_push(jcobs_encoder *encoder, void *buffer, size_t buf
 }
 
 /* Encodes the next byte of a message, if the frame of the message up to and including this byte fits the buffer.
- * It is a separate function: as a part of jcobs_encoder_feed it would take a tenth more time in avr-gcc's code. */
+ * If this function were a part of jcobs_encoder_feed, the code of avr-gcc would take a tenth more time. */
 static jcobs_answer jcobs_encoder_feed_byte(jcobs_encoder *encoder, unsigned char *buffer, size_t buffer_size,
                                             unsigned char byte)
 {

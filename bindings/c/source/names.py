@@ -107,8 +107,8 @@ COMMENTS = {
     "UnbufferedEncoder::append_each": [(", one byte at a time.", ", one byte at a time. There is at least one byte.")],
     "UnbufferedEncoder::feed_len": [(
         "if the frame of the message up to and including this byte fits the buffer.",
-        "if the frame of the message up to and including this byte fits the buffer. It is a separate function: as a part of jcobs_encoder_feed it would"
-        " take a tenth more time in avr-gcc's code.",
+        "if the frame of the message up to and including this byte fits the buffer. If this function were a part of jcobs_encoder_feed, the code of"
+        " avr-gcc would take a tenth more time.",
     )],
     "UnbufferedEncoder::finalize": [(
         "Ends the message, and returns",
@@ -148,8 +148,8 @@ COMMENTS = {
     "leading_zeros": [(" [`decode`](crate::decode) skips these zeros before a frame.", "")],
     "len_to_zero": [(
         "or the length of `bytes` if there is no zero. The function is small, because it uses no SIMD vectors.",
-        "or the number of all bytes if there is no zero. The loop tests four bytes in each round, so a byte costs half as"
-        " many instructions as with one byte in each round.",
+        "or the number of all bytes if there is no zero. The loop tests four bytes in each round. A loop that tests one byte in"
+        " each round would need twice as many instructions.",
     )],
     "result_by": [(
         "a call that consumed `consumed` bytes and decoded them into a buffer of `room` bytes. `size` is the length of the message,"
@@ -162,6 +162,7 @@ COMMENTS = {
     "write_each": [(
         "Encodes a message as [`encode`](crate::encode) does, but one byte at a time.",
         "Writes the frame of the message, and returns its length. The code of the open block belongs at `index`, and the next byte at"
-        " `next`. No part has more bytes than the open block has room for, so no byte needs a test whether the block is full.",
+        " `next`. No part has more bytes than the open block has room for, so the function doesn't test at each byte whether the block is"
+        " full.",
     )],
 }

@@ -201,8 +201,8 @@ class AsyncFrameReader(Frames):
     async def write(self, message: ReadableBuffer) -> None:
         """Sends a message as a frame, and the sentinel after the frame. Raises TypeError if there is no `writer`.
 
-        If this call is cancelled or fails, a stream of trio or anyio may have sent a part of the frame. In this case the
-        next write first sends bytes that end the cut frame. For the cut frame, the receiver reports at most one
+        If this call is cancelled or fails, a stream of trio or anyio may have sent a part of the frame. In this case
+        the next write first sends bytes that end the cut frame. For the cut frame, the receiver reports at most one
         `Broken` or `TooLong`.
         """
         if self._writer is None:
