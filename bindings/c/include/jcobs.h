@@ -386,8 +386,8 @@ JCOBS_API jcobs_answer jcobs_encoder_push(jcobs_encoder *encoder, void *buffer, 
 /* returns:
  * - OK: consumed is len, and length is the length of the frame so far. The frame in the buffer isn't complete until the
  *   message is finished, because only the call that finishes the message writes the code of the open block;
- * - TOO_SMALL, if and only if the frame of the message with these bytes doesn't fit: consumed and length are 0, and the
- *   state and the buffer are as they were. */
+ * - TOO_SMALL, if and only if the frame of the message, including these bytes, doesn't fit: consumed and length are 0,
+ *   and the state and the buffer are as they were. */
 
 /* Encodes one byte of a message. The call has the same effect as jcobs_encoder_push with this byte, and is faster. */
 JCOBS_API jcobs_answer jcobs_encoder_feed(jcobs_encoder *encoder, void *buffer, size_t buffer_size,

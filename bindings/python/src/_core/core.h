@@ -39,7 +39,7 @@
 #endif
 #define FAST(function) ((PyCFunction)(void (*)(void))(function))
 
-/* Returns an argument as a bytes object. A bytes object is returned as it is; the bytes of any other object with a
+/* Returns an argument as a bytes object. A bytes object is returned as it is. The bytes of any other object with a
  * buffer are copied, so that no other thread or process can change the bytes while a call reads them. */
 PyObject *bytes_of(PyObject *data, const char *name);
 
