@@ -296,7 +296,7 @@ class Expressions(Kinds):
         return True
 
     def start(self, tree):
-        """If this is an initial state, in which each member is 0, returns the struct of jcobs.h."""
+        """If an expression is the initial state of a struct of jcobs.h, with each member 0, returns the name of the struct."""
         while tree[0] in ("call", "path"):
             is_other = tree[1] == "None" or tree[1] in self.env if tree[0] == "path" else tree[2]
             if is_other or self.variant(tree[1]):
@@ -312,7 +312,7 @@ class Expressions(Kinds):
         return self.out.started(self.find(tree[1])[2], self)
 
     def resets(self, item):
-        """If a method only resets a struct to its initial state, returns this struct."""
+        """If a method only resets a struct to its initial state, returns the name of the struct."""
         if not isinstance(item[4], list) or len(item[4]) != 1 or item[4][0][:3] != ("assign", "=", ("deref", ("path", "self"))):
             return None
         return self.start(item[4][0][3])

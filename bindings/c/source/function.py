@@ -94,8 +94,8 @@ class Function(Statements):
     def with_pointers(self, text):
         """Casts the void pointers of an exported function.
 
-        A pointer that is used more than once, or whose bytes are read or written, is cast once, and a variable has the result. Any
-        other pointer is cast in the call that it is passed to.
+        A pointer that is used more than once, or whose bytes are read or written, is cast once, into a variable. Any other pointer is
+        cast in the call that it is passed to.
         """
         for name, kind in self.params if self.is_exported else []:
             if not is_slice(kind):

@@ -1,6 +1,6 @@
-"""Reads the items of a file as tuples. It knows only the forms of Rattle that the coder for devices uses.
+"""Reads the items of a file as tuples. Only the forms of Rattle that the coder for devices uses are known.
 
-The parts for the prover (clauses, ghost imports, laws) are dropped. Any other form is an error, which names the file and the line.
+The parts for the prover (clauses, ghost imports, laws) are dropped. An unknown form is an error, which names the file and the line.
 """
 
 from syntax import Syntax

@@ -63,7 +63,7 @@ class Statements(Expressions):
         return None
 
     def whole_copy(self, statements):
-        """If the statements assign each member of a struct to another struct, returns one assignment and their number."""
+        """If the first statements copy each member of a struct to another struct, returns one assignment for them, and their number."""
         first = statements[0]
         if first[0] != "assign" or first[1] != "=" or first[2][0] != "field" or first[3][0] != "field":
             return None
@@ -111,7 +111,7 @@ class Statements(Expressions):
             self.put(f"{to.text} = (unsigned char)({to.text} {sign[0]} {value.at(10)});")
 
     def shortened(self, to, right):
-        """Translates the statement by which a slice loses its first bytes. Variables have its pointer and its length."""
+        """Translates a statement that drops the first bytes of a slice, whose pointer and length are in variables."""
         if right[0] != "borrow" or right[2][0] != "index" or self.value(right[2][1]) is not to:
             raise Unknown(f"{self.name}: {to.pointer} becomes another slice")
         _, begin, end = right[2][2]
@@ -202,7 +202,7 @@ class Statements(Expressions):
         return None
 
     def let_part(self, name, part):
-        """Translates a part of a slice to variables for its pointer and its length.
+        """Puts the pointer and the length of a part of a slice into variables.
 
         This is necessary if the part loses its first bytes later, or if the indices of its ends may change in the block.
         """

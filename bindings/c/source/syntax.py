@@ -1,4 +1,4 @@
-"""Reads statements, patterns and expressions as tuples. It knows only the forms of Rattle that the coder for devices uses."""
+"""Reads statements, patterns and expressions as tuples. Only the forms of Rattle that the coder for devices uses are known."""
 
 import re
 
