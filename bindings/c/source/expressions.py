@@ -6,10 +6,10 @@ import names
 from kinds import BOOL, BYTE, END, FRAME, NUMBERS, PIECE, SCALARS, USIZE, Kinds, Slice, Value
 from rattle import Unknown
 
-# The names of these types in jcobs.h.
+# The names of these constants in jcobs.h.
 CONSTANTS = {it: f"JCOBS_{it}" for it in "OK MORE TOO_SMALL BROKEN EMPTY NOT_A_FRAME CANONICAL LONGER".split()}
 COMPARED = ("==", "!=", "<", ">", "<=", ">=")
-MIRRORED = {"<": ">", ">": "<", "<=": ">=", ">=": "<="}  # with the constant on the right
+MIRRORED = {"<": ">", ">": "<", "<=": ">=", ">=": "<="}  # to put the constant on the right
 # The precedence of C's operators. Unary operators and casts have 15, and an expression without an operator has 20.
 LEVELS = {"||": 1, "&&": 2, "|": 3, "^": 4, "&": 5, "==": 6, "!=": 6, "<": 7, ">": 7, "<=": 7, ">=": 7, "+": 9, "-": 9}
 LEVELS |= {"*": 10, "/": 10, "%": 10}
@@ -67,7 +67,7 @@ class Expressions(Kinds):
         raise Unknown(f"{self.name}: constant {tree}")
 
     def ended(self, variant, words, expected=END):
-        """Returns the end of a piece or a frame, and its numbers. A number that the end doesn't have is 0."""
+        """Returns the end of a piece or a frame, with its numbers. A number that the end doesn't have is 0."""
         kind = PIECE if expected == PIECE else END
         words = [self.end_kind(variant), *words, *["0"] * (1 + (kind == PIECE) - len(words))]
         return Value(f"jcobs_make_{kind[0]}({', '.join(words)})", kind)
@@ -146,7 +146,7 @@ class Expressions(Kinds):
         _, sign, left, right = tree
         logical = sign in ("&&", "||")
         wanted = None if logical or sign in COMPARED else expected
-        if sign == "<" and left[0] == "number" and str(int(left[1]) + 1) in names.NUMBERS:  # by the number that has a name
+        if sign == "<" and left[0] == "number" and str(int(left[1]) + 1) in names.NUMBERS:  # compare with the number that has a name
             sign, left, right = ">=", right, ("number", str(int(left[1]) + 1))
         a, b = self.value(left, wanted), self.value(right, wanted)
         if sign in MIRRORED and a.literal and not b.literal:
@@ -155,7 +155,7 @@ class Expressions(Kinds):
         if a.literal != b.literal:
             a.kind = b.kind = b.kind if a.literal else a.kind
         level = LEVELS[sign]
-        # Compilers warn of && in || without brackets.
+        # Compilers warn about && in || without brackets.
         text = f"{a.at(2 if logical and a.level > 2 else level + (a.level == 2 and sign == '||') * 9)} {sign} "
         text += b.at(level + 1 + (b.level == 2 and sign == "||") * 9)
         if logical or sign in COMPARED:
@@ -165,7 +165,10 @@ class Expressions(Kinds):
         return Value(text, a.kind, level)
 
     def without_casts(self, a, b, sign):
-        """Drops the casts of a byte to a size_t that C makes by itself: next to a size_t, or next to a constant in a comparison."""
+        """Drops a cast of a byte to a size_t if C converts the byte by itself.
+
+        C does so if the other operand is a size_t, or a constant in a comparison.
+        """
         if (a.kind, b.kind) == (USIZE, USIZE):
             if b.widened and (not a.literal or sign in COMPARED) and not a.widened:
                 b = b.widened
@@ -184,12 +187,12 @@ class Expressions(Kinds):
         if not self.is_simple(tree):
             raise Unknown(f"{self.name}: if as a value")
         a, b = (self.value(it[0][1], expected) for it in tree[2:])
-        if (a.text, b.text) == ("1", "0") and a.kind[1] in ("bool", "u32"):  # C's comparisons are 1 and 0
+        if (a.text, b.text) == ("1", "0") and a.kind[1] in ("bool", "u32"):  # the value of a comparison in C is 1 or 0
             return self.value(tree[1])
         return Value(f"{self.value(tree[1]).at(1)} ? {a.at(1)} : {b.at(0)}", b.kind if a.literal else a.kind, 0)
 
     def on_match(self, tree, expected):
-        """Returns an end with the number of consumed bytes, or no end, whose numbers have no meaning."""
+        """Translates a match that adds the number of consumed bytes to an end. If there is no end, the numbers have no meaning."""
         (some, with_count), (none, nothing) = tree[2]
         end, name = self.value(tree[1]), some[2][0][1]
         if end.kind != END or none != ("variant", "None", []) or nothing != [("value", ("path", "None"))]:
@@ -198,7 +201,7 @@ class Expressions(Kinds):
         return self.value(with_count[0][1], PIECE)
 
     def is_with_count(self, tree):
-        """Returns whether a match is `Some(end) => Some((end, count))`, and `None` for `None`."""
+        """Returns whether a match returns `Some((end, count))` for `Some(end)`, and `None` for `None`."""
         arms = [body for _, body in tree[2]] if tree[0] == "match" else []
         return len(arms) == 2 and arms[0][0][1][:2] == ("call", "Some") and arms[0][0][1][2][0][0] == "tuple"
 
@@ -262,7 +265,7 @@ class Expressions(Kinds):
         return Value(f"{name}({', '.join(words)})", there.kind_of(item[3]))
 
     def known_result(self, there, item, args):
-        """Returns the result of a function that is a match of an argument, if the argument is an end without numbers."""
+        """If a function is a match of one of its arguments, and this argument is an end without numbers, returns the result."""
         of = item[4][0][1] if isinstance(item[4], list) and len(item[4]) == 1 and item[4][0][0] == "value" else ("none",)
         if of[0] != "match" or of[1] not in [("path", name) for name, _ in item[2]] or len(args) != len(item[2]):
             return None
@@ -276,7 +279,7 @@ class Expressions(Kinds):
         return None
 
     def is_same(self, item):
-        """Returns whether a function returns its argument unchanged: in C both are a jcobs_end of the same kind."""
+        """Returns whether a function returns its argument unchanged, because both are the same jcobs_end in C."""
         body = item[4]
         if not (isinstance(body, list) and len(body) == 1 and body[0][0] == "value" and body[0][1][0] == "match"):
             return False
@@ -293,7 +296,7 @@ class Expressions(Kinds):
         return True
 
     def start(self, tree):
-        """Returns the struct of jcobs.h whose initial state this is, with each member 0."""
+        """If an expression is the initial state of a struct of jcobs.h, with each member 0, returns the name of the struct."""
         while tree[0] in ("call", "path"):
             is_other = tree[1] == "None" or tree[1] in self.env if tree[0] == "path" else tree[2]
             if is_other or self.variant(tree[1]):
@@ -309,7 +312,7 @@ class Expressions(Kinds):
         return self.out.started(self.find(tree[1])[2], self)
 
     def resets(self, item):
-        """Returns the struct that a method only resets to its initial state."""
+        """If a method only resets a struct to its initial state, returns the name of the struct."""
         if not isinstance(item[4], list) or len(item[4]) != 1 or item[4][0][:3] != ("assign", "=", ("deref", ("path", "self"))):
             return None
         return self.start(item[4][0][3])

@@ -19,14 +19,15 @@ class Function(Statements):
         _, self.name, self.params, self.result, self.body, self.docs, self.attributes = item
         self.key = (path, self.name)
         self.is_exported = any("no_mangle" in it for it in self.attributes)
-        self.name_here = self.name  # of the function whose body this is
-        self.passed, self.constants = {}, {}  # its names of this function's parameters, and its parameters that are constants
+        self.name_here = self.name  # the name of the function whose body this is
+        self.passed, self.constants = {}, {}  # the body's names of this function's parameters, and the body's constant parameters
         self.lines, self.depth, self.env, self.declared_names = [], 1, {}, {}
 
     def take_body(self, crate, path, item, args, converted=None):
-        """Takes the body of a function that nothing else calls, and to which this one passes its parameters on.
+        """Takes the body of a function to which this function passes its parameters on, and which nothing else calls.
 
-        The results are the same, or converted: a length, by its name in an expression, and an error.
+        `converted` is given if the results are converted. It has the name of a length, an expression with this name that
+        replaces the length, and an expression that replaces an error.
         """
         self.crate, self.path, self.name_here = crate, path, item[1]
         self.body = with_results(item[4], *converted) if converted else item[4]
@@ -35,7 +36,7 @@ class Function(Statements):
         self.constants |= {name: arg for (name, _), arg in zip(item[2], args) if arg[0] != "path"}
 
     def other(self, crate, path, name):
-        """Returns the C name of a function or a constant of another file."""
+        """Returns an object that translates a function or a constant of another file."""
         return Function(self.out, crate, path, ("fn", name, [], None, [], [], []))
 
     def written(self):
@@ -55,7 +56,7 @@ class Function(Statements):
         return "\n".join([self.comment(), *self.head(params), "{", *paragraphs(lines), "}"])
 
     def parameters(self):
-        """Returns the parameters in C, and the meaning of each name of Rattle."""
+        """Returns the parameters in C, and records the meaning of each name of Rattle."""
         words, given = [], self.out.calls[self.name].params if self.is_exported else None
         at = 0
         for name, kind in self.params:
@@ -78,11 +79,11 @@ class Function(Statements):
         return words
 
     def c_name(self, name):
-        """Returns the name of a parameter or a variable in C."""
+        """Returns the C name of a parameter or a variable."""
         return names.VARIABLES.get(self.name_here, {}).get(name) or names.VARIABLES[""].get(name, name)
 
     def length_name(self, name, is_mutable):
-        """Returns the name of a slice's length: the number of bytes that are there, or the room of a buffer."""
+        """Returns the name of a slice's length: the name in names.py, if there is one. Otherwise it ends in `_size` or `_len`."""
         wanted = self.c_name(f"{name}_len")
         return wanted if wanted != f"{name}_len" else f"{self.c_name(name)}_{'size' if is_mutable else 'len'}"
 
@@ -91,7 +92,11 @@ class Function(Statements):
         return self.out.struct(self.item(kind), self).rsplit("_", 1)[-1]
 
     def with_pointers(self, text):
-        """Casts the void pointers of an exported function: at each call that they are passed to, or in variables if their bytes are read or written."""
+        """Casts the void pointers of an exported function.
+
+        A pointer that is used more than once, or whose bytes are read or written, is cast once, into a variable. Any other pointer is
+        cast in the call that it is passed to.
+        """
         for name, kind in self.params if self.is_exported else []:
             if not is_slice(kind):
                 continue
@@ -122,7 +127,7 @@ class Function(Statements):
         return re.sub(r"\[?`([^`]*)`\]?(\([^)]*\))?", lambda found: quoted(self.word_in_c(found[1])), text)
 
     def word_in_c(self, word):
-        """Translates a text in quotes in a comment: the name of a parameter or a variable, a number, or another function."""
+        """Translates a text in backticks in a comment: the name of a parameter, a variable or another function, or a number."""
         if self.c_name(word) != word or word in self.known_names():
             return self.c_name(word)
         if word in self.out.calls or not re.search(r"[A-Za-z]", word) or any(word in fields for fields in self.out.given):
@@ -130,7 +135,7 @@ class Function(Statements):
         raise Unknown(f"{self.name}: its comment names {word}, which C doesn't know")
 
     def known_names(self):
-        """Returns the names that its comments may contain: its parameters, its variables and the members of structs."""
+        """Returns the names that comments of this function may contain: its parameters, its variables and the members of structs."""
         found = re.findall(r"'(?:name|for|field)', '(\w+)'", str(self.body))
         return {name for name, _ in self.params} | set(found)
 

@@ -13,15 +13,15 @@ SAYS = {
     "DecodesInPlace ": """the result and every byte of the buffer are those that the definition of COBS gives for the bytes that
         were in the buffer before the call.""",
     "DecodesNext ": """the result, the state and the buffer are those that the definition of the stream gives after these
-        bytes, however the stream is cut into calls. In every state consumed is at most the number of bytes passed, and
-        length is at most buffer_size.""",
+        bytes, however the stream is divided among calls. In every state consumed is at most the number of bytes passed,
+        and length is at most buffer_size.""",
     "Encodes ": """if the frame of the message fits, the buffer begins with it, and the bytes after it are as they were.
         Otherwise the status is TOO_SMALL, and the buffer is as it was.""",
     "EncodesInPlace ": """if the longest frame fits, the buffer begins with the frame of the message, and the bytes after this
         frame are as they were. Otherwise the status is TOO_SMALL, and the buffer is as it was.""",
-    "EncodesNext ": """the status is OK exactly if the frame of the message so far, including these bytes, fits. If the status
-        isn't OK, the state and the buffer are as they were. In every state consumed is at most the number of bytes passed,
-        and length is at most buffer_size.""",
+    "EncodesNext ": """the status is OK if and only if the frame of the message so far, including these bytes, fits. If the
+        status isn't OK, the state and the buffer are as they were. In every state consumed is at most the number of bytes
+        passed, and length is at most buffer_size.""",
     "EncodesTerminated 0 ": """if the frame of the message and the zero fit, the buffer begins with them, and the bytes after
         them are as they were. Otherwise the status is TOO_SMALL, and the buffer is as it was.""",
     "Finishes 0 ": """if the frame of all bytes that were taken fits, the buffer begins with it, and the encoder is in its
@@ -30,9 +30,9 @@ SAYS = {
         in its initial state. Otherwise the status is TOO_SMALL, and the state and the buffer are as they were.""",
     "IsFreshDecoder ": "after the call the decoder has taken no byte, whatever its state was.",
     "IsFreshEncoder ": "after the call the encoder has taken no byte, whatever its state was.",
-    "IsKindOf ": """the result is NOT_A_FRAME exactly if the bytes are no frame, and CANONICAL exactly if they are a frame that
-        encoders write.""",
-    "ReportsIdle ": "the result is 1 exactly if no piece is open.",
+    "IsKindOf ": """the result is NOT_A_FRAME if and only if the bytes aren't a frame, and CANONICAL if and only if they are a
+        frame that encoders write.""",
+    "ReportsIdle ": "the result is 1 if and only if no piece is open.",
     "max_encoded_len message_len < 2 ^ 64 →": "the result is this length if it is below 2 to the 64th,",
     "2 ^ 64 ≤ max_encoded_len message_len →": "and 0 otherwise.",
 }
@@ -47,7 +47,7 @@ class Call:
 
 
 def structs(header):
-    """For each struct its members by their offset in a build for 64 bits: the type and the name of each member."""
+    """Returns the type and the name of each member of each struct, by the member's offset in a build for 64 bits."""
     found = {}
     for name, body in re.findall(r"^typedef struct (\w+) \{\n(.*?)^\}", header, re.S | re.M):
         at, members = 0, {}
@@ -60,12 +60,12 @@ def structs(header):
 
 
 def enums(header):
-    """For each enum the words of its values, without JCOBS_."""
+    """Returns the names of the values of each enum, without JCOBS_."""
     return {name: re.findall(r"^    JCOBS_(\w+) =", body, re.M) for name, body in re.findall(r"^enum (\w+) \{\n(.*?)^\}", header, re.S | re.M)}
 
 
 def calls(header):
-    """The calls that the header declares, in its order."""
+    """Returns the calls that the header declares, in the order of the header."""
     found = {}
     for kind, name, params in re.findall(r"^JCOBS_API ([a-z][\w ]*?)\b(jcobs_\w+)\(([^)]*)\)[^;{]*;", header, re.M):
         pairs = []
@@ -78,7 +78,7 @@ def calls(header):
 
 
 def contracts(sources):
-    """For each call of these .rt files: its doc comment, its clauses in words, and the file's name."""
+    """Returns for each call of these .rt files its doc comment, its clauses in words, and the name of its file."""
     found = {}
     pattern = r'((?:^///[^\n]*\n)+)^#\[unsafe\(no_mangle\)\]\n^pub extern "C" fn (\w+)(.*?)^\{'
     for path in sources:
@@ -92,7 +92,7 @@ def contracts(sources):
 
 
 def in_words(clause):
-    """Returns the sentence of SAYS for a clause. A clause that has none is an error."""
+    """Returns the sentence of SAYS for a clause. A clause without a sentence is an error."""
     text = " ".join(clause.split()) + " "
     said = [" ".join(words.split()) for start, words in SAYS.items() if text.startswith(start)]
     if len(said) != 1:

@@ -1,9 +1,9 @@
 """Translates the types of Rattle to types of C.
 
-A struct becomes a struct of C. A slice becomes a pointer and a length. An enum without fields becomes the enum of jcobs.h with these
-variants. The end of a piece or a frame (an enum with fields, an Option or a Result) becomes a jcobs_end; with the number of consumed
-bytes it becomes a jcobs_piece. A Result of a length whose error has no value becomes a jcobs_frame_length. A Result without a value becomes
-an int that says whether it is Ok.
+A struct becomes a struct of C. A slice becomes a pointer and a length. An enum without fields becomes the enum of jcobs.h that has the
+same variants. The end of a piece or a frame (an enum with fields, an Option or a Result) becomes a jcobs_end. Together with the number of
+consumed bytes, it becomes a jcobs_piece. A Result with a length, whose error has no value, becomes a jcobs_frame_length. A Result without
+a value becomes an int that says whether it is Ok.
 """
 
 import re
@@ -26,7 +26,7 @@ class Value:
 
     def __init__(self, text, kind, level=20, literal=False):
         self.text, self.kind, self.level, self.literal = text, kind, level, literal
-        self.widened = None  # of a cast to a size_t, the byte
+        self.widened = None  # if the expression is a cast of a byte to a size_t, the byte
 
     def at(self, level):
         return self.text if self.level >= level else f"({self.text})"
@@ -51,7 +51,7 @@ class Kinds:
         return self.find(kind[1])[2] if kind[0] == "path" else None
 
     def kind_of(self, kind):
-        """Returns the type of a value. For an enum with fields, an Option or a Result it is the type of C."""
+        """Returns the type of a value. For an enum with fields, an Option or a Result, this is the type in C."""
         if kind is None or kind[0] != "path" or kind[1] in SCALARS:
             return kind
         if kind[1] == "Result" and kind[2][0] == ("tuple", []):

@@ -1,6 +1,6 @@
 """Names and comments of jcobs.c that replace those of the Rattle sources. They use the words of jcobs.h."""
 
-# Functions. Each other function keeps its name in Rattle, after jcobs_ or the name of its type.
+# Functions. A function that isn't listed keeps its name in Rattle, with jcobs_ or the name of its type before it.
 FUNCTIONS = {
     "UnbufferedDecoder::end": "jcobs_decoder_end_piece",
     "UnbufferedDecoder::feed_each": "jcobs_decoder_take_bytes",
@@ -26,7 +26,7 @@ FUNCTIONS = {
     "too_small": "jcobs_too_small_answer",
     "write_each": "jcobs_write_blocks",
 }
-# The calls of jcobs.h with which a part of jcobs.c begins, and the heading of this part.
+# For each part of jcobs.c, the call of jcobs.h with which the part begins, and the heading of the part.
 SECTIONS = {
     "jcobs_max_length": "Encoding a whole message",
     "jcobs_decode": "Decoding a whole frame",
@@ -34,8 +34,8 @@ SECTIONS = {
     "jcobs_encoder_reset": "Encoding a message that comes in chunks",
 }
 # Parameters and variables of each function; the names under "" apply to every function. The length of the slice `NAME` is
-# `NAME_len` if its bytes are there, and `NAME_size` if the slice is a buffer with room. A call of jcobs.h and the functions
-# that it calls use the same names.
+# called `NAME_size` if the slice is a buffer to write to, and otherwise `NAME_len`. A call of jcobs.h and the functions that
+# it calls use the same names.
 VARIABLES = {
     "": {"bytes_len": "len"},
     "UnbufferedDecoder::end": {"len": "buffer_size", "ended": "before"},
@@ -66,12 +66,12 @@ VARIABLES = {
     "try_encode_each": {"source": "message", "dest": "frame"},
     "write_each": {"source": "message", "dest": "frame", "len": "part_len"},
 }
-# Functions that only one call of jcobs.h calls, and that stay separate functions: inlined, the step would be a tenth slower on
+# Functions that are called only once, but stay separate functions: if they were inlined, the step would be a tenth slower on
 # an AVR.
 APART = {"encode_byte", "decode_zero"}
-# Functions for a byte that comes once in a piece, called by a function that takes each byte (JCOBS_RARE in top.c).
+# Functions that handle a byte that occurs once in a piece. A function that takes each byte calls them (JCOBS_RARE in top.c).
 RARE = {"decode_zero"}
-# Functions whose value replaces each call of them.
+# Functions whose calls are replaced by the value that the function returns.
 WRITTEN_OUT = {"UnbufferedDecoder::is_idle"}
 # Numbers that have a name.
 NUMBERS = {"254": "FULL_BLOCK_BYTES"}
@@ -83,8 +83,8 @@ ENDS = {
     "JCOBS_END_TOO_LONG": ("TooLong", "TargetBufTooSmall"),
 }
 # Comments: for each function, a text in its comments in Rattle, and the text that replaces it in C. The texts under "" apply to
-# every function. The words in backticks that are left are names of Rattle, which get their names in C. A name that could be read as
-# an ordinary word keeps its backticks.
+# every function. After these replacements, each name of Rattle in backticks is replaced by its name in C. A name that could be
+# read as an ordinary word keeps its backticks.
 COMMENTS = {
     "": [(" The Rust crate `cobs` has no such call.", ""), (" The Rust crate `cobs` doesn't guarantee this.", "")],
     "UnbufferedDecoder::end": [(
@@ -107,8 +107,8 @@ COMMENTS = {
     "UnbufferedEncoder::append_each": [(", one byte at a time.", ", one byte at a time. There is at least one byte.")],
     "UnbufferedEncoder::feed_len": [(
         "if the frame of the message up to and including this byte fits the buffer.",
-        "if the frame of the message up to and including this byte fits the buffer. It is a separate function: as a part of jcobs_encoder_feed it would"
-        " take a tenth more time in avr-gcc's code.",
+        "if the frame of the message up to and including this byte fits the buffer. If this function were a part of jcobs_encoder_feed, the code of"
+        " avr-gcc would take a tenth more time.",
     )],
     "UnbufferedEncoder::finalize": [(
         "Ends the message, and returns",
@@ -148,8 +148,8 @@ COMMENTS = {
     "leading_zeros": [(" [`decode`](crate::decode) skips these zeros before a frame.", "")],
     "len_to_zero": [(
         "or the length of `bytes` if there is no zero. The function is small, because it uses no SIMD vectors.",
-        "or the number of all bytes if there is no zero. The loop tests four bytes in each round, so a byte costs half as"
-        " many instructions as with one byte in each round.",
+        "or the number of all bytes if there is no zero. The loop tests four bytes in each round. A loop that tests one byte in"
+        " each round would need twice as many instructions.",
     )],
     "result_by": [(
         "a call that consumed `consumed` bytes and decoded them into a buffer of `room` bytes. `size` is the length of the message,"
@@ -162,6 +162,7 @@ COMMENTS = {
     "write_each": [(
         "Encodes a message as [`encode`](crate::encode) does, but one byte at a time.",
         "Writes the frame of the message, and returns its length. The code of the open block belongs at `index`, and the next byte at"
-        " `next`. No part has more bytes than the open block has room for, so no byte needs a test whether the block is full.",
+        " `next`. No part has more bytes than the open block has room for, so the function doesn't test at each byte whether the block is"
+        " full.",
     )],
 }

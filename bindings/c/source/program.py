@@ -9,7 +9,7 @@ CRATES = ["cobs_small", "cobs_abi", "cobs"]
 
 
 class Program:
-    """All items of the crates. Each has its crate, its file and the tuple that rattle.py has read."""
+    """All items of the crates. Each item has its crate, its file and the tuple that rattle.py returned for it."""
 
     def __init__(self, crates):
         self.files, self.named = {}, {}
@@ -24,7 +24,7 @@ class Program:
         except Unknown:
             if crate != "cobs":
                 raise
-            items = []  # the coder for devices uses nothing of this file, or a name in it isn't found
+            items = []  # if the coder for devices uses an item of this file, `find` fails
         for item in items:
             if item[0] != "use":
                 self.named.setdefault((crate, item[1]), []).append((crate, path, item))
@@ -49,7 +49,7 @@ class Program:
         raise Unknown(f"{path.name}: {name} isn't found")
 
     def nearest(self, name, found, words):
-        """Returns the item whose path has the most words of the import."""
+        """Returns the item whose path contains the most words of the import."""
         near = [sum(word in (*path.parts, path.stem) for word in words) for _, path, _ in found]
         if near.count(max(near)) > 1:
             raise Unknown(f"{name} is more than one item")

@@ -1,6 +1,6 @@
-"""Reads the part of Rattle in which the coder for devices is written, and returns its items as tuples.
+"""Reads the items of a file as tuples. Only the forms of Rattle that the coder for devices uses are known.
 
-The parts for the prover (clauses, ghost imports, laws) are dropped. A form that isn't known is an error, with its file and line.
+The parts for the prover (clauses, ghost imports, laws) are dropped. An unknown form is an error, which names the file and the line.
 """
 
 from syntax import Syntax
@@ -153,7 +153,7 @@ class Reader(Syntax):
         begun = self.at
         try:
             body = self.block()
-        except Unknown as why:  # it matters only if the function is reached
+        except Unknown as why:  # this error matters only if the function is reached
             self.at, body = begun, why
             self.skip_brackets()
         if result == ("path", "Self", []):

@@ -1,6 +1,7 @@
 /* ---- Written by hand: the calls for other sentinels, the texts and the versions ---- */
 
-/* XORs each byte with the sentinel. This turns a frame for the sentinel 0 into a frame for this sentinel, or back. */
+/* XORs each byte with the sentinel. This turns a frame for the sentinel 0 into a frame for the given sentinel, or the
+ * other way round. */
 static void jcobs_xor(void *bytes, size_t len, unsigned char sentinel)
 {
     unsigned char *const data = (unsigned char *)bytes;
@@ -28,10 +29,10 @@ jcobs_answer jcobs_encode_terminated_with_sentinel(const void *message, size_t m
     return answer;
 }
 
-/* Decodes the whole blocks of the frame that ends at the first sentinel, with the steps of a streaming decoder. If a
- * block that is cut short follows the whole blocks, the decoder is fed a 1 in place of this block. A 1 is the code of a
- * block without bytes, so the decoder writes the zero between the whole blocks and the cut block, and no byte of the cut
- * block. */
+/* Decodes the frame that ends at the first sentinel, with the steps of a streaming decoder. The decoder is fed only the
+ * whole blocks of the frame. If a block that is cut short follows them, the decoder is fed a 1 in place of this block. A
+ * 1 is the code of a block without bytes. So the decoder writes the zero between the whole blocks and the cut block, but
+ * no byte of the cut block. */
 jcobs_answer jcobs_decode_with_sentinel(const void *source, size_t source_len, void *message, size_t message_size,
                                         unsigned char sentinel)
 {
@@ -58,7 +59,7 @@ jcobs_answer jcobs_decode_with_sentinel(const void *source, size_t source_len, v
         jcobs_decoder_take_byte(&decoder, message_bytes, message_size, 1);
     }
     answer = jcobs_decoder_feed(&decoder, message, message_size, 0);
-    if (answer.status == JCOBS_MORE) { /* the frame has no bytes: it is an empty message */
+    if (answer.status == JCOBS_MORE) { /* the frame has no bytes: the message is empty */
         answer.status = JCOBS_OK;
     }
     if (answer.status == JCOBS_OK && whole_len < frame_len) {
@@ -78,7 +79,7 @@ jcobs_answer jcobs_decode_in_place_with_sentinel(void *buffer, size_t buffer_len
     while (frame_len < buffer_len && buffer_bytes[frame_len] != sentinel) {
         frame_len++;
     }
-    if (frame_len == 0 && buffer_len > 0) { /* the frame has no bytes: it is an empty message */
+    if (frame_len == 0 && buffer_len > 0) { /* the frame has no bytes: the message is empty */
         return answer;
     }
     jcobs_xor(buffer, frame_len, sentinel);

@@ -14,7 +14,7 @@ INDENT = "    "
 class Statements(Expressions):
     """Translates the statements of a function, and adds them to `lines`.
 
-    The value of a block is returned, assigned to the values of `keep`, or dropped.
+    The value of a block is returned, assigned to `keep`, or dropped.
     """
 
     def put(self, text):
@@ -33,7 +33,7 @@ class Statements(Expressions):
                 getattr(self, f"do_{statement[0]}")(statement)
 
     def inside(self, statements, returns=False, keep=None):
-        """Translates a block in brackets, outside of which its names have no meaning."""
+        """Translates a block in brackets. Its names have no meaning outside the brackets."""
         saved = dict(self.env)
         self.depth += 1
         self.block(statements, returns, keep)
@@ -63,7 +63,7 @@ class Statements(Expressions):
         return None
 
     def whole_copy(self, statements):
-        """Returns assignments to each member of a struct from another struct as one assignment, and their number."""
+        """If the first statements copy each member of a struct to another struct, returns one assignment for them, and their number."""
         first = statements[0]
         if first[0] != "assign" or first[1] != "=" or first[2][0] != "field" or first[3][0] != "field":
             return None
@@ -111,7 +111,7 @@ class Statements(Expressions):
             self.put(f"{to.text} = (unsigned char)({to.text} {sign[0]} {value.at(10)});")
 
     def shortened(self, to, right):
-        """Translates a slice in variables that loses its first bytes."""
+        """Translates a statement that drops the first bytes of a slice, whose pointer and length are in variables."""
         if right[0] != "borrow" or right[2][0] != "index" or self.value(right[2][1]) is not to:
             raise Unknown(f"{self.name}: {to.pointer} becomes another slice")
         _, begin, end = right[2][2]
@@ -153,7 +153,7 @@ class Statements(Expressions):
         self.put("}")
 
     def declare(self, name, kind):
-        """A new variable."""
+        """Returns the declaration of a new variable."""
         c_name = self.c_name(name)
         self.env[name] = Value(c_name, kind)
         if c_name in self.declared_names and self.declared_names[c_name] < self.depth:
@@ -197,12 +197,15 @@ class Statements(Expressions):
         if isinstance(value, Slice) or value.text == name:
             self.env[name] = value  # a part of a slice, or a copy of a parameter, which isn't used again
             return None
-        kind, value = value.kind, value.widened or value  # a byte becomes a size_t by itself
+        kind, value = value.kind, value.widened or value  # C converts a byte to a size_t by itself
         self.put(f"{self.declare(name, kind)} = {value.text};")
         return None
 
     def let_part(self, name, part):
-        """Translates a part of a slice that loses its first bytes later, or is in a block in which the indices of its ends may change."""
+        """Puts the pointer and the length of a part of a slice into variables.
+
+        This is necessary if the part loses its first bytes later, or if the indices of its ends may change in the block.
+        """
         const = "" if part.mutable else "const "
         self.put(f"{const}unsigned char *{name} = {part.pointer};")
         length = f"{name}_{'size' if part.mutable else 'len'}"
@@ -223,14 +226,14 @@ class Statements(Expressions):
         return USIZE
 
     def is_let_else_of_match(self, statements):
-        """Translates a `let .. else` and a match of the end that it names."""
+        """Returns whether the statements are a `let .. else`, and a match of the end that the `let` names."""
         if len(statements) != 2 or statements[0][0] != "let" or not statements[0][4] or statements[1][0] != "value":
             return False
         inner, tree = statements[0][1][2][0], statements[1][1]
         return tree[0] == "match" and inner[0] == "tuple" and tree[1] == ("path", inner[1][0][1])
 
     def let_match(self, statement, tree):
-        """Translates these two as one switch. The result of the `else` comes last."""
+        """Translates a `let .. else`, and a match of the end that it names, as one switch. The result of the `else` comes last."""
         _, pattern, _, of, other = statement
         end, consumed = (it[1] for it in pattern[2][0][1])
         text = self.in_variable(self.value(of))
@@ -239,7 +242,7 @@ class Statements(Expressions):
         self.matched(("match", tree[1], [*tree[2], none]), True, None)
 
     def in_variable(self, value):
-        """Puts the end of a piece or a frame into a variable."""
+        """Puts the end of a piece or a frame into a variable, and returns the name of the variable."""
         if re.fullmatch(r"\w+", value.text):
             return value.text
         name = {PIECE: "piece", END: "end", FRAME: "result"}[value.kind]
@@ -310,7 +313,7 @@ class Statements(Expressions):
             found += [self.end_kind(each[1]) for each in patterns]
             for each in patterns:
                 self.put(f"case {self.end_kind(each[1])}:")
-            if returns and at == len(arms) - 1:  # after the switch: a compiler may ask for a result there
+            if returns and at == len(arms) - 1:  # this arm comes after the switch, where a compiler may ask for a result
                 self.put(f"{INDENT}break;")
                 continue
             self.arm(patterns[0], body, text, returns, keep)
@@ -326,7 +329,7 @@ class Statements(Expressions):
         return None
 
     def same_constant(self, value, arms):
-        """Translates a match of an enum whose values are the variants' constants of jcobs.h: it is the value itself."""
+        """Translates a match that returns the constant of jcobs.h for each variant of an enum. In C this is the value itself."""
         for pattern, body in arms:
             constant = self.value(("path", pattern[1])).text
             if len(body) != 1 or self.value(body[0][1]).text != constant:
@@ -349,7 +352,7 @@ class Statements(Expressions):
         self.env = saved
 
     def either(self, arms, text, returns, keep):
-        """Translates a match of a frame's length or an error to an if."""
+        """Translates a match of a result, which is the length of a frame or an error, to an if."""
         (first, then), (second, other) = arms
         if first[1] != "Ok" or second[1] != "Err":
             raise Unknown(f"{self.name}: match of {text}")

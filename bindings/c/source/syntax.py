@@ -1,4 +1,4 @@
-"""Reads the statements, patterns and expressions of the part of Rattle in which the coder for devices is written, as tuples."""
+"""Reads statements, patterns and expressions as tuples. Only the forms of Rattle that the coder for devices uses are known."""
 
 import re
 
@@ -45,7 +45,7 @@ class Syntax(Tokens):
             self.take(";")
             return (word,)
         if self.peek() in ("if", "match", "{"):
-            value = self.primary(True)  # it ends the statement
+            value = self.primary(True)  # such an expression ends the statement
             self.take(";")
             return ("value" if self.peek() in ("}", ",") else "do", value)
         value = self.expression()

@@ -10,22 +10,22 @@ TOKEN = re.compile(
 
 
 class Unknown(Exception):
-    """A form that isn't known."""
+    """Raised for a form that isn't known."""
 
 
 class Tokens:
-    """Returns the tokens of a file, each with the comments before it."""
+    """The tokens of a file, each with the comments before it."""
 
     def __init__(self, text, name):
         self.name, self.at, self.tokens, before = name, 0, [], []
         for found in TOKEN.finditer(text):
             kind, word = found.lastgroup, found[0]
             if kind == "comment":
-                # A comment after a token names the law that is called. C has no laws.
+                # A comment after a token, on the same line, names the law that is called. It is dropped, because C has no laws.
                 if not text[text.rfind("\n", 0, found.start()) + 1 : found.start()].strip():
                     before.append(word[2:].strip())
             elif kind == "doc" and word.startswith("//!"):
-                continue  # of the file
+                continue  # the doc comment of the file
             elif kind == "doc":
                 self.tokens.append(("doc", word[3:].strip(), [], text.count("\n", 0, found.start()) + 1))
             elif kind != "space":

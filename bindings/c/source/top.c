@@ -3,29 +3,30 @@
  * SPDX-License-Identifier: MIT OR Apache-2.0
  *
  * Compile this file with your program, as C99 or later or as C++, with jcobs.h in the same folder or in the include
- * path. The file has no static variables except a constant table of the texts of jcobs_strerror. It allocates no memory,
- * and calls no function of a C library. A compiler may turn some lines of the file into calls of memset or memcpy.
+ * path. The file has no static variables, except a constant table with the texts of jcobs_strerror. It allocates no
+ * memory, and calls no function of a C library. A compiler may turn some lines of the file into calls of memset or
+ * memcpy.
  *
  * What is proved: each function of crates/cobs_small meets its contract, accesses only the buffers that are passed to
  * it, and returns. The proofs are for lengths of 64 bits and for any contents of the buffers and states. The comment
  * above a call summarizes its contract, and names the file of crates/cobs_small/src that has the contract. The words of
  * the contracts are defined in crates/cobs_abi/specs and crates/cobs/specs.
  *
- * What is tested, not proved: that this file does what the functions in Rattle do. translate.py translated each function
- * from Rattle, and your compiler compiles it. Lengths have the width of your size_t. bindings/c/tests/translated.py,
- * which shares no code with translate.py, compares this file with the functions in Rattle: their conditions, loops,
- * operators, numbers, calls and uses of names. bindings/c/tests/run.sh compares two million calls of this file with
- * calls of the proved module itself. run.sh and tests/device.sh run this file on processors of both byte orders, whose
- * size_t has 16, 32 or 64 bits. They run the cases of conformance/ (except where size_t has 16 bits), and compare random
- * calls, with states of random bytes, with plain C. The functions from jcobs_xor on are written by hand, and tested in
- * the same way.
+ * What is tested, not proved: this file does what the functions in Rattle do. translate.py translated each function from
+ * Rattle, and your compiler compiles it. Lengths have the width of your size_t. bindings/c/tests/translated.py, which
+ * shares no code with translate.py, compares this file with the functions in Rattle: their conditions, loops, operators,
+ * numbers, calls and uses of names. bindings/c/tests/run.sh compares two million calls of this file with calls of the
+ * proved module itself. run.sh and tests/device.sh run this file on processors of both byte orders, whose size_t has 16,
+ * 32 or 64 bits. They run the cases of conformance/, unless size_t has 16 bits. They also make random calls with states
+ * of random bytes, and compare the results with those of plain C. The functions from jcobs_xor to the end of this file
+ * are written by hand, and tested in the same way.
  */
 #include "jcobs.h"
 
 #include <limits.h>
 
-/* These two types don't compile on a processor that this file doesn't support: the first if bytes have more than 8 bits,
- * the second if size_t is shorter than unsigned int. */
+/* These two types don't compile on a processor that this file doesn't support. The first doesn't compile if bytes have
+ * more than 8 bits, and the second doesn't compile if size_t is shorter than unsigned int. */
 typedef char jcobs_bytes_have_8_bits[CHAR_BIT == 8 ? 1 : -1];
 typedef char jcobs_size_t_is_no_shorter_than_int[sizeof(size_t) >= sizeof(unsigned int) ? 1 : -1];
 
@@ -33,10 +34,10 @@ typedef char jcobs_size_t_is_no_shorter_than_int[sizeof(size_t) >= sizeof(unsign
  *
  * - JCOBS_INLINE: always inlined, because a loop over bytes calls the function, or because it only makes a struct.
  * - JCOBS_APART: not inlined, so that the loop of the function can use all registers of a small processor. On x86-64 the
- *   function may be inlined: this processor has more registers, and a call costs the time of several bytes.
+ *   function may be inlined: this processor has more registers, and a call takes as much time as several bytes.
  * - JCOBS_RARE: for a function that handles a byte that occurs once in a piece. The function is inlined into the call
- *   that handles each byte, except on x86-64. There gcc would then compile a single return, the code for most bytes
- *   would have to jump to this return, and a call would need a fifth more time. */
+ *   that handles each byte. On x86-64 it isn't inlined: otherwise gcc would compile a single return, to which the code
+ *   for most bytes would have to jump, and a call would take a fifth more time. */
 #ifdef __GNUC__
 #define JCOBS_INLINE __inline__ __attribute__((always_inline))
 #ifdef __x86_64__
@@ -53,8 +54,8 @@ typedef char jcobs_size_t_is_no_shorter_than_int[sizeof(size_t) >= sizeof(unsign
 #endif
 
 /* A frame is a sequence of blocks. A block is a code, from 1 to 255, followed by code - 1 bytes, none of which is 0. A
- * block with the code 255 is full. The message is the bytes after the code of each block, and a zero after each block
- * except full blocks and the last block. The last block is open as long as more bytes may follow. */
+ * block with the code 255 is full. The message consists of the bytes after the code of each block, and of a zero after
+ * each block that is neither full nor the last. The last block is open as long as more bytes may follow. */
 /* the constants */
 
 /* jcobs.h declares the states. Their members have these meanings:
@@ -63,13 +64,14 @@ typedef char jcobs_size_t_is_no_shorter_than_int[sizeof(size_t) >= sizeof(unsign
  *   `missing` bytes. `joint` is 1 after the code of a block that isn't full: if another block follows, the message has a
  *   zero between these two blocks. `joint` is 0 at the start, and after the code of a full block. too_long is 1 if there
  *   was no room for a byte of the message: then the rest of the piece is skipped.
- * - In an encoder, the code of the open block belongs at `index` of the buffer, and the `taken` bytes of this block
- *   follow the code. `full` is 1 if the last byte made a block full: the frame ends with this block, unless another byte
- *   follows.
+ * - In an encoder, the code of the open block will be written at `index` in the buffer, and the `taken` bytes of this
+ *   block follow the code. `full` is 1 if the last byte made a block full: the frame ends with this block, unless
+ *   another byte follows.
  *
- * A member may also have any other value. In `joint`, too_long and `full` each value except 0 has the meaning of 1. */
+ * A member may also have any other value. In `joint`, too_long and `full`, each value except 0 means the same as 1. */
 
-/* The functions jcobs_make_.. return a struct with the given members, because C++ has no compound literals. */
+/* The functions jcobs_make_.. return a struct with the given members. They are used because C++ has no compound
+ * literals. */
 
 /* How a piece of a stream ended. A piece is the bytes between two zeros: a frame, or a broken frame. */
 enum jcobs_end_kind {

@@ -3,10 +3,11 @@
 
 Each exported function of crates/cobs_small, and each function that it reaches, is translated to a C function with the same
 statements, names and comments, except for the names and comments that names.py replaces. The arguments of an exported function have
-their names in jcobs.h, and its comment summarizes its contract. A function that only passes its parameters on isn't written. A
-function that only converts the result of another function gets the statements of that function. kinds.py describes how types are
-translated. A form that the script doesn't know is an error, with its function. The text before and after the functions is in top.c and
-rest.c. The script writes jcobs.c here and to ../device/src. With --check it compares both files, and writes neither.
+the same names as in jcobs.h, and the comment of the function summarizes its contract. A function that only passes its parameters on
+to another function isn't written. A function that only converts the result of another function gets the statements of that function.
+kinds.py describes how types are translated. A form that the script doesn't know is an error, which names the function. The text
+before the functions is in top.c, and the text after them is in rest.c. The script writes jcobs.c here and to ../device/src. With
+--check it compares both files, and writes neither.
 """
 
 import re
@@ -64,7 +65,7 @@ class Output:
         return self.names[key]
 
     def only_passes_on(self, found):
-        """Returns the function to which this one only passes its parameters, in their order, and constants; and these arguments."""
+        """If this function only calls another with its own parameters, in their order, and constants, returns that one and the arguments."""
         crate, path, item = found
         body = item[4]
         if not isinstance(body, list) or len(body) != 1 or body[0][0] != "value":
@@ -72,7 +73,7 @@ class Output:
         return self.passed_on(body[0][1], item[2], path, crate)
 
     def passed_on(self, tree, params, path, crate):
-        """Returns the function that is called with these parameters, in their order, and constants; and these arguments."""
+        """If this is a call with these parameters, in their order, and constants, returns the called function and the arguments."""
         if tree[0] not in ("call", "method"):
             return None
         kind, name, *rest = tree
@@ -91,7 +92,10 @@ class Output:
             return None
 
     def converts(self, made):
-        """Returns the function whose length or error this one only converts, apart from laws; its arguments; and both results."""
+        """Returns the function whose length or error this function only converts, its arguments, and the converted results.
+
+        Calls of laws are ignored. `take_body` describes the converted results.
+        """
         body = made.body if isinstance(made.body, list) else [None]
         of = body[-1][1] if body[-1] and body[-1][0] == "value" else ("none",)
         if of[0] != "match" or not all(it[0] == "do" and it[1][0] == "call" and it[1][1].startswith("law_") for it in body[:-1]):
@@ -106,19 +110,19 @@ class Output:
         return inner[0], inner[1], (ok[2][0][1], length[0][1], other[0][1])
 
     def behind(self, found):
-        """Returns the function itself, or the function to which it only passes its parameters on."""
+        """Returns the function to which this one only passes its parameters on. If there is none, returns this function."""
         inner = None if any("no_mangle" in it for it in found[2][6]) else self.only_passes_on(found)
         return self.behind(inner[0]) if inner and len(inner[1]) == len(found[2][2]) else found
 
     def is_part(self, item):
-        """Returns whether a function is called only once: then its statements replace the call."""
+        """Returns whether a function is called only once, so that its statements replace the call."""
         places = [it for found in self.program.named.values() for it in found if it[2][0] == "fn"]
         calls = [(crate, path, str(it[4]).count(f"('call', '{item[1]}', ")) for crate, path, it in places]
         count = sum(count for crate, path, count in calls if count and self.program.find(item[1], path, crate)[2] is item)
         return count == 1 and item[1] not in names.APART
 
     def constant(self, name, value, docs):
-        """Returns a constant. Its comment is the first sentence of its comment in Rattle, up to a comma."""
+        """Returns the C name of a constant. Its comment in C is its comment in Rattle, up to the first comma."""
         says = re.match(r"(.*?)(?:,|\.$|$)", " ".join(docs))[1]
         says = says[:1].lower() + says[1:]
         if self.numbers.setdefault(name, (value, says))[0] != value or value > 255:
@@ -138,13 +142,13 @@ class Output:
         return f"JCOBS_{snake(name).upper()}"
 
     def started(self, item, function):
-        """Returns the name of the struct of jcobs.h for which there is an initial state with each member 0."""
+        """Returns the C name of a struct, and records that this struct has an initial state, in which each member is 0."""
         name = self.struct(item, function)
         self.starts.setdefault(name, [it for it, _ in item[2]])
         return name
 
     def struct(self, item, function):
-        """Returns the name in jcobs.h of the struct with the same members."""
+        """Returns the name of the struct of jcobs.h that has the same members."""
         name = self.given.get(tuple(field for field, _ in item[2]))
         if not name:
             raise Unknown(f"{item[1]}: jcobs.h has no struct with these members")
@@ -155,7 +159,7 @@ class Output:
         return self.struct(item, function) if item[0] == "struct" else f"jcobs_{snake(item[1])}"
 
     def constructor(self, item, function):
-        """Returns the function that makes a struct from its members."""
+        """Returns the name of the function that makes a struct from its members."""
         return f"jcobs_make_{self.struct(item, function).rsplit('_', 1)[-1]}"
 
     def constants(self):

@@ -3,29 +3,30 @@
  * SPDX-License-Identifier: MIT OR Apache-2.0
  *
  * Compile this file with your program, as C99 or later or as C++, with jcobs.h in the same folder or in the include
- * path. The file has no static variables except a constant table of the texts of jcobs_strerror. It allocates no memory,
- * and calls no function of a C library. A compiler may turn some lines of the file into calls of memset or memcpy.
+ * path. The file has no static variables, except a constant table with the texts of jcobs_strerror. It allocates no
+ * memory, and calls no function of a C library. A compiler may turn some lines of the file into calls of memset or
+ * memcpy.
  *
  * What is proved: each function of crates/cobs_small meets its contract, accesses only the buffers that are passed to
  * it, and returns. The proofs are for lengths of 64 bits and for any contents of the buffers and states. The comment
  * above a call summarizes its contract, and names the file of crates/cobs_small/src that has the contract. The words of
  * the contracts are defined in crates/cobs_abi/specs and crates/cobs/specs.
  *
- * What is tested, not proved: that this file does what the functions in Rattle do. translate.py translated each function
- * from Rattle, and your compiler compiles it. Lengths have the width of your size_t. bindings/c/tests/translated.py,
- * which shares no code with translate.py, compares this file with the functions in Rattle: their conditions, loops,
- * operators, numbers, calls and uses of names. bindings/c/tests/run.sh compares two million calls of this file with
- * calls of the proved module itself. run.sh and tests/device.sh run this file on processors of both byte orders, whose
- * size_t has 16, 32 or 64 bits. They run the cases of conformance/ (except where size_t has 16 bits), and compare random
- * calls, with states of random bytes, with plain C. The functions from jcobs_xor on are written by hand, and tested in
- * the same way.
+ * What is tested, not proved: this file does what the functions in Rattle do. translate.py translated each function from
+ * Rattle, and your compiler compiles it. Lengths have the width of your size_t. bindings/c/tests/translated.py, which
+ * shares no code with translate.py, compares this file with the functions in Rattle: their conditions, loops, operators,
+ * numbers, calls and uses of names. bindings/c/tests/run.sh compares two million calls of this file with calls of the
+ * proved module itself. run.sh and tests/device.sh run this file on processors of both byte orders, whose size_t has 16,
+ * 32 or 64 bits. They run the cases of conformance/, unless size_t has 16 bits. They also make random calls with states
+ * of random bytes, and compare the results with those of plain C. The functions from jcobs_xor to the end of this file
+ * are written by hand, and tested in the same way.
  */
 #include "jcobs.h"
 
 #include <limits.h>
 
-/* These two types don't compile on a processor that this file doesn't support: the first if bytes have more than 8 bits,
- * the second if size_t is shorter than unsigned int. */
+/* These two types don't compile on a processor that this file doesn't support. The first doesn't compile if bytes have
+ * more than 8 bits, and the second doesn't compile if size_t is shorter than unsigned int. */
 typedef char jcobs_bytes_have_8_bits[CHAR_BIT == 8 ? 1 : -1];
 typedef char jcobs_size_t_is_no_shorter_than_int[sizeof(size_t) >= sizeof(unsigned int) ? 1 : -1];
 
@@ -33,10 +34,10 @@ typedef char jcobs_size_t_is_no_shorter_than_int[sizeof(size_t) >= sizeof(unsign
  *
  * - JCOBS_INLINE: always inlined, because a loop over bytes calls the function, or because it only makes a struct.
  * - JCOBS_APART: not inlined, so that the loop of the function can use all registers of a small processor. On x86-64 the
- *   function may be inlined: this processor has more registers, and a call costs the time of several bytes.
+ *   function may be inlined: this processor has more registers, and a call takes as much time as several bytes.
  * - JCOBS_RARE: for a function that handles a byte that occurs once in a piece. The function is inlined into the call
- *   that handles each byte, except on x86-64. There gcc would then compile a single return, the code for most bytes
- *   would have to jump to this return, and a call would need a fifth more time. */
+ *   that handles each byte. On x86-64 it isn't inlined: otherwise gcc would compile a single return, to which the code
+ *   for most bytes would have to jump, and a call would take a fifth more time. */
 #ifdef __GNUC__
 #define JCOBS_INLINE __inline__ __attribute__((always_inline))
 #ifdef __x86_64__
@@ -53,8 +54,8 @@ typedef char jcobs_size_t_is_no_shorter_than_int[sizeof(size_t) >= sizeof(unsign
 #endif
 
 /* A frame is a sequence of blocks. A block is a code, from 1 to 255, followed by code - 1 bytes, none of which is 0. A
- * block with the code 255 is full. The message is the bytes after the code of each block, and a zero after each block
- * except full blocks and the last block. The last block is open as long as more bytes may follow. */
+ * block with the code 255 is full. The message consists of the bytes after the code of each block, and of a zero after
+ * each block that is neither full nor the last. The last block is open as long as more bytes may follow. */
 enum {
     JCOBS_FULL_BLOCK_BYTES = 254, /* the number of bytes that a full block has after its code */
     JCOBS_FULL_CODE = 255         /* the code of a full block */
@@ -66,13 +67,14 @@ enum {
  *   `missing` bytes. `joint` is 1 after the code of a block that isn't full: if another block follows, the message has a
  *   zero between these two blocks. `joint` is 0 at the start, and after the code of a full block. too_long is 1 if there
  *   was no room for a byte of the message: then the rest of the piece is skipped.
- * - In an encoder, the code of the open block belongs at `index` of the buffer, and the `taken` bytes of this block
- *   follow the code. `full` is 1 if the last byte made a block full: the frame ends with this block, unless another byte
- *   follows.
+ * - In an encoder, the code of the open block will be written at `index` in the buffer, and the `taken` bytes of this
+ *   block follow the code. `full` is 1 if the last byte made a block full: the frame ends with this block, unless
+ *   another byte follows.
  *
- * A member may also have any other value. In `joint`, too_long and `full` each value except 0 has the meaning of 1. */
+ * A member may also have any other value. In `joint`, too_long and `full`, each value except 0 means the same as 1. */
 
-/* The functions jcobs_make_.. return a struct with the given members, because C++ has no compound literals. */
+/* The functions jcobs_make_.. return a struct with the given members. They are used because C++ has no compound
+ * literals. */
 
 /* How a piece of a stream ended. A piece is the bytes between two zeros: a frame, or a broken frame. */
 enum jcobs_end_kind {
@@ -233,8 +235,8 @@ static JCOBS_INLINE int jcobs_has_room(unsigned char taken, const unsigned char 
 }
 
 /* Writes the frame of the message, and returns its length. The code of the open block belongs at `index`, and the
- * next byte at `next`. No part has more bytes than the open block has room for, so no byte needs a test whether
- * the block is full. */
+ * next byte at `next`. No part has more bytes than the open block has room for, so the function doesn't test at
+ * each byte whether the block is full. */
 static size_t jcobs_write_blocks(const unsigned char *message, size_t message_len, unsigned char *frame)
 {
     /* The code of the open block belongs at `index`, and the next byte of the frame at `next`. The difference
@@ -513,7 +515,7 @@ jcobs_answer jcobs_decode(const void *source, size_t source_len, void *message, 
 }
 
 /* Returns how many bytes come before the first zero, or the number of all bytes if there is no zero. The loop
- * tests four bytes in each round, so a byte costs half as many instructions as with one byte in each round. */
+ * tests four bytes in each round. A loop that tests one byte in each round would need twice as many instructions. */
 static JCOBS_APART size_t jcobs_length_to_zero(const unsigned char *bytes, size_t len)
 {
     const unsigned char *rest = bytes;
@@ -627,8 +629,8 @@ static enum jcobs_kind jcobs_kind_by_blocks(const unsigned char *bytes, size_t l
 }
 
 /* Returns the kind of the bytes: a frame that encoders write, another frame, or no frame.
- * Proved, by the contract in kind.rt: the result is NOT_A_FRAME exactly if the bytes are no frame, and CANONICAL
- * exactly if they are a frame that encoders write. */
+ * Proved, by the contract in kind.rt: the result is NOT_A_FRAME if and only if the bytes aren't a frame, and
+ * CANONICAL if and only if they are a frame that encoders write. */
 unsigned int jcobs_frame_kind(const void *bytes, size_t len)
 {
     const unsigned char *const data = (const unsigned char *)bytes;
@@ -796,8 +798,8 @@ static JCOBS_INLINE jcobs_answer jcobs_decoder_answer(const jcobs_decoder *decod
 /* Decodes bytes of the stream, and stops after the zero that ends the first piece. If no piece ends, decodes all
  * the bytes. Even if the state is corrupt, nothing outside the buffers is accessed.
  * Proved, by the contract in decoder.rt: the result, the state and the buffer are those that the definition of the
- * stream gives after these bytes, however the stream is cut into calls. In every state consumed is at most the
- * number of bytes passed, and length is at most buffer_size. */
+ * stream gives after these bytes, however the stream is divided among calls. In every state consumed is at most
+ * the number of bytes passed, and length is at most buffer_size. */
 jcobs_answer jcobs_decoder_push(jcobs_decoder *decoder, void *buffer, size_t buffer_size, const void *bytes, size_t len)
 {
     jcobs_piece piece = jcobs_decoder_take_bytes(decoder, (unsigned char *)buffer, buffer_size,
@@ -833,8 +835,8 @@ static JCOBS_RARE jcobs_answer jcobs_decoder_feed_zero(jcobs_decoder *decoder, u
 
 /* Decodes the next byte of the stream. The contract is the same as for a jcobs_decoder_push of this byte.
  * Proved, by the contract in decoder.rt: the result, the state and the buffer are those that the definition of the
- * stream gives after these bytes, however the stream is cut into calls. In every state consumed is at most the
- * number of bytes passed, and length is at most buffer_size. */
+ * stream gives after these bytes, however the stream is divided among calls. In every state consumed is at most
+ * the number of bytes passed, and length is at most buffer_size. */
 jcobs_answer jcobs_decoder_feed(jcobs_decoder *decoder, void *buffer, size_t buffer_size, unsigned char byte)
 {
     unsigned char *const buffer_bytes = (unsigned char *)buffer;
@@ -846,7 +848,7 @@ jcobs_answer jcobs_decoder_feed(jcobs_decoder *decoder, void *buffer, size_t buf
 }
 
 /* Returns 1 if no piece is open, and 0 otherwise.
- * Proved, by the contract in decoder.rt: the result is 1 exactly if no piece is open. */
+ * Proved, by the contract in decoder.rt: the result is 1 if and only if no piece is open. */
 unsigned int jcobs_decoder_is_idle(const jcobs_decoder *decoder)
 {
     return decoder->written == 0 && decoder->missing == 0 && decoder->joint == 0 && decoder->too_long == 0;
@@ -934,9 +936,9 @@ static JCOBS_INLINE size_t jcobs_encoder_length(const jcobs_encoder *encoder)
 
 /* Encodes the next bytes of a message, if the frame of the message up to and including these bytes fits the
  * buffer. Even if the state is corrupt, nothing outside the buffers is accessed.
- * Proved, by the contract in encoder.rt: the status is OK exactly if the frame of the message so far, including
- * these bytes, fits. If the status isn't OK, the state and the buffer are as they were. In every state consumed is
- * at most the number of bytes passed, and length is at most buffer_size. */
+ * Proved, by the contract in encoder.rt: the status is OK if and only if the frame of the message so far,
+ * including these bytes, fits. If the status isn't OK, the state and the buffer are as they were. In every state
+ * consumed is at most the number of bytes passed, and length is at most buffer_size. */
 jcobs_answer jcobs_encoder_push(jcobs_encoder *encoder, void *buffer, size_t buffer_size, const void *bytes, size_t len)
 {
     if (!jcobs_encoder_try_append(encoder, (unsigned char *)buffer, buffer_size, (const unsigned char *)bytes, len)) {
@@ -946,7 +948,7 @@ jcobs_answer jcobs_encoder_push(jcobs_encoder *encoder, void *buffer, size_t buf
 }
 
 /* Encodes the next byte of a message, if the frame of the message up to and including this byte fits the buffer.
- * It is a separate function: as a part of jcobs_encoder_feed it would take a tenth more time in avr-gcc's code. */
+ * If this function were a part of jcobs_encoder_feed, the code of avr-gcc would take a tenth more time. */
 static jcobs_answer jcobs_encoder_feed_byte(jcobs_encoder *encoder, unsigned char *buffer, size_t buffer_size,
                                             unsigned char byte)
 {
@@ -962,9 +964,9 @@ static jcobs_answer jcobs_encoder_feed_byte(jcobs_encoder *encoder, unsigned cha
 }
 
 /* Encodes the next byte of a message. The contract is the same as for a jcobs_encoder_push of this byte.
- * Proved, by the contract in encoder.rt: the status is OK exactly if the frame of the message so far, including
- * these bytes, fits. If the status isn't OK, the state and the buffer are as they were. In every state consumed is
- * at most the number of bytes passed, and length is at most buffer_size. */
+ * Proved, by the contract in encoder.rt: the status is OK if and only if the frame of the message so far,
+ * including these bytes, fits. If the status isn't OK, the state and the buffer are as they were. In every state
+ * consumed is at most the number of bytes passed, and length is at most buffer_size. */
 jcobs_answer jcobs_encoder_feed(jcobs_encoder *encoder, void *buffer, size_t buffer_size, unsigned char byte)
 {
     return jcobs_encoder_feed_byte(encoder, (unsigned char *)buffer, buffer_size, byte);
@@ -1048,7 +1050,8 @@ jcobs_answer jcobs_encoder_finish_terminated(jcobs_encoder *encoder, void *buffe
 
 /* ---- Written by hand: the calls for other sentinels, the texts and the versions ---- */
 
-/* XORs each byte with the sentinel. This turns a frame for the sentinel 0 into a frame for this sentinel, or back. */
+/* XORs each byte with the sentinel. This turns a frame for the sentinel 0 into a frame for the given sentinel, or the
+ * other way round. */
 static void jcobs_xor(void *bytes, size_t len, unsigned char sentinel)
 {
     unsigned char *const data = (unsigned char *)bytes;
@@ -1076,10 +1079,10 @@ jcobs_answer jcobs_encode_terminated_with_sentinel(const void *message, size_t m
     return answer;
 }
 
-/* Decodes the whole blocks of the frame that ends at the first sentinel, with the steps of a streaming decoder. If a
- * block that is cut short follows the whole blocks, the decoder is fed a 1 in place of this block. A 1 is the code of a
- * block without bytes, so the decoder writes the zero between the whole blocks and the cut block, and no byte of the cut
- * block. */
+/* Decodes the frame that ends at the first sentinel, with the steps of a streaming decoder. The decoder is fed only the
+ * whole blocks of the frame. If a block that is cut short follows them, the decoder is fed a 1 in place of this block. A
+ * 1 is the code of a block without bytes. So the decoder writes the zero between the whole blocks and the cut block, but
+ * no byte of the cut block. */
 jcobs_answer jcobs_decode_with_sentinel(const void *source, size_t source_len, void *message, size_t message_size,
                                         unsigned char sentinel)
 {
@@ -1106,7 +1109,7 @@ jcobs_answer jcobs_decode_with_sentinel(const void *source, size_t source_len, v
         jcobs_decoder_take_byte(&decoder, message_bytes, message_size, 1);
     }
     answer = jcobs_decoder_feed(&decoder, message, message_size, 0);
-    if (answer.status == JCOBS_MORE) { /* the frame has no bytes: it is an empty message */
+    if (answer.status == JCOBS_MORE) { /* the frame has no bytes: the message is empty */
         answer.status = JCOBS_OK;
     }
     if (answer.status == JCOBS_OK && whole_len < frame_len) {
@@ -1126,7 +1129,7 @@ jcobs_answer jcobs_decode_in_place_with_sentinel(void *buffer, size_t buffer_len
     while (frame_len < buffer_len && buffer_bytes[frame_len] != sentinel) {
         frame_len++;
     }
-    if (frame_len == 0 && buffer_len > 0) { /* the frame has no bytes: it is an empty message */
+    if (frame_len == 0 && buffer_len > 0) { /* the frame has no bytes: the message is empty */
         return answer;
     }
     jcobs_xor(buffer, frame_len, sentinel);

@@ -2,10 +2,10 @@
  *
  * SPDX-License-Identifier: MIT OR Apache-2.0
  *
- * COBS encodes a message, which may be any bytes, as a frame that never contains a certain byte value: the sentinel. So
- * the sentinel can mark the end of each frame on a serial line or in a file. The sentinel is 0, except in the calls
- * that have a parameter `sentinel`. The frame of a message of up to 254 bytes is 1 byte longer than the message. The
- * frame of a longer message has at most 1 extra byte per 254 bytes of the message, rounded up.
+ * COBS encodes a message, which may contain any bytes, as a frame that never contains a certain byte value: the
+ * sentinel. So the sentinel can mark the end of each frame on a serial line or in a file. The sentinel is 0, except in
+ * the calls that have a parameter `sentinel`. The frame of a message of up to 254 bytes is 1 byte longer than the
+ * message. The frame of a longer message has at most 1 extra byte per 254 bytes of the message, rounded up.
  *
  * To receive frames in chunks of any size:
  *
@@ -62,25 +62,25 @@
  *
  * Preconditions
  *
- * Each pointer to bytes is passed together with a number of bytes. If the name of this number is len or ends in _len,
- * the number is the length of the input. If the name ends in _size, the number is the size of a buffer. The pointer
- * must be valid for reads of this number of bytes. If the pointer doesn't point to const, it must also be valid for
- * writes. If the number is 0, the pointer isn't used and may be NULL. The number must be at most PTRDIFF_MAX. The
- * input, the buffer and the state of a call must not overlap. To encode or decode within one buffer, use
- * jcobs_encode_in_place or jcobs_decode_in_place.
+ * Each pointer to bytes is passed together with a number of bytes. A number whose name is len or ends in _len is the
+ * length of the input. A number whose name ends in _size is the size of a buffer. The pointer must be valid for reading
+ * that many bytes. If it doesn't point to const, it must also be valid for writing that many bytes. If the number is 0,
+ * the pointer isn't used and may be NULL. The number must be at most PTRDIFF_MAX. The input, the buffer and the state
+ * of a call must not overlap. To encode or decode within one buffer, use jcobs_encode_in_place or
+ * jcobs_decode_in_place.
  *
  * A pointer to a state must be valid. The state may have any contents. Even if the state is corrupt, the call returns,
  * and accesses no memory outside the input, the buffer and the state. The result is still in range: consumed is at most
- * the number of bytes passed, and length is at most the buffer's size. Everything else that this header says about a
- * result is true only for the initial state, and for a state that an earlier call has left.
+ * the number of bytes passed, and length is at most the buffer's size. Everything else that this header says about
+ * results is true only if the state is the initial state or the state that an earlier call left.
  *
  * While a call runs, nothing else may change its input, its buffer or its state: no other thread or process, no
  * interrupt or signal handler, no DMA transfer. A call may read a byte twice. If the byte changes between the two
  * reads, the call may access memory outside the buffers, or never return. So wait until a DMA transfer into the input
  * has finished, or pass a copy of the input.
  *
- * No function allocates memory or uses a lock. No function keeps a pointer or other data after it returns: a call
- * depends only on its arguments. So calls on different buffers and states may run at the same time, also in signal
+ * No function allocates memory or uses a lock. No function keeps a pointer or other data after it returns, so a call
+ * depends only on its arguments. Calls on different buffers and states may run at the same time, even in signal
  * handlers.
  *
  * Results
@@ -88,34 +88,37 @@
  * The comment below a prototype lists each status that the call can return, without the prefix JCOBS_. For each status
  * the comment gives the values of the members consumed and length:
  *
- * - consumed is the number of bytes of the input that the call has processed. The input is the message, the source or
- *   the pushed bytes;
+ * - consumed is the number of bytes of the input (the message, the source or the pushed bytes) that the call has
+ *   processed;
  * - length is the number of bytes at the front of the buffer that belong to the result.
  *
- * A call doesn't change the bytes of the buffer after the result. The only exception is
+ * A call doesn't change the bytes of the buffer that follow the result. The only exception is
  * jcobs_decode_in_place_with_sentinel. If you decode one frame with several calls, or encode one message with several
- * calls, the bytes after the result are as they were before the first of these calls. If a call with a jcobs_encoder
- * returns TOO_SMALL, the whole buffer is as it was before this call.
+ * calls, the bytes that follow the result are as they were before the first of these calls. If a call with a
+ * jcobs_encoder returns TOO_SMALL, the whole buffer is as it was before this call.
  *
  * A frame is a sequence of blocks. A block is a code, from 1 to 255, followed by code - 1 nonzero bytes. A block with
- * the code 255 is full. The output of a frame is the bytes that the frame decodes to: the bytes after the code of each
- * block, with a zero between two blocks unless the first of them is full. A broken frame is cut off inside its last
- * block. For some calls the output of a broken frame includes this block, and for other calls it doesn't. The zero
- * before this block, if there is one, belongs to the output for all calls. For example, the broken frame 02 41 05 42 is
- * cut off inside the block 05 42. The output is 41 00 42 including this block, and 41 00 without this block.
+ * the code 255 is full. The output of a frame is the bytes that the frame decodes to. To decode a frame, take the bytes
+ * after the code of each block, and put a zero between two neighbouring blocks unless the first of the two is full. A
+ * broken frame is cut off inside its last block. In some calls the output of a broken frame includes the bytes of this
+ * block; in other calls it doesn't. If there is a zero before this block, it belongs to the output in all calls. For
+ * example, the broken frame 02 41 05 42 is cut off inside the block 05 42. If the output includes this block, it is
+ * 41 00 42; otherwise it is 41 00.
  *
  * jcobs_decode, jcobs_decode_in_place and their forms with a sentinel don't need a sentinel after the frame. If there
- * is no sentinel, the frame ends at the end of the source, and consumed is the source's length. So a frame that was cut
- * off between two blocks is decoded as a shorter frame, with status OK. If your protocol ends each frame with a
- * sentinel, test whether source[consumed - 1] is the sentinel. This test also works after decoding in place, because no
- * call changes the sentinel or the bytes after it. The streaming decoder reports a frame only when its sentinel has
- * arrived. COBS has no checksum: damage that turns a frame into another frame isn't noticed.
+ * is no sentinel, the frame ends at the end of the source, and consumed is the source's length. So if a frame was cut
+ * off between two blocks, the blocks before the cut are decoded as a shorter frame, with the status OK. If your
+ * protocol ends each frame with a sentinel, test whether source[consumed - 1] is the sentinel. This test also works
+ * after decoding in place, because no call changes the sentinel or the bytes after it. The streaming decoder needs no
+ * such test: it reports a frame only when the sentinel after the frame has arrived. COBS has no checksum: damage that
+ * turns a frame into another frame isn't noticed.
  *
- * This paragraph is about the built library, libjcobs.a, not about jcobs.c, which your compiler builds. On x86-64 the
- * built library needs x86-64-v2 (SSE4.2 and POPCNT). Most Intel processors have these instructions since 2009, and most
- * AMD processors since 2011. On aarch64 the library needs ARMv8-A. The library has call frame information for
- * debuggers, but no unwind tables, and no call throws or unwinds. Each call begins with a landing pad (endbr64 or bti
- * c), so a program that is hardened by IBT, SHSTK or BTI stays hardened. The library calls only memcpy and memmove.
+ * This paragraph is about the built library, libjcobs.a. It isn't about jcobs.c, which you compile yourself. On x86-64
+ * the built library needs x86-64-v2 (SSE4.2 and POPCNT). Most Intel processors since 2009 and most AMD processors since
+ * 2011 have these instructions. On aarch64 the library needs ARMv8-A. The library has call frame information for
+ * debuggers, but no unwind tables. No call throws or unwinds. Each call begins with a landing pad (endbr64 or bti c),
+ * so a program that is hardened with IBT, SHSTK or BTI stays hardened. The only functions outside the library that it
+ * calls are memcpy and memmove.
  */
 #ifndef JCOBS_H
 #define JCOBS_H
@@ -132,17 +135,18 @@ extern "C" {
 #define JCOBS_VERSION_PATCH 0
 #define JCOBS_VERSION (JCOBS_VERSION_MAJOR * 10000u + JCOBS_VERSION_MINOR * 100u + JCOBS_VERSION_PATCH)
 
-/* Each prototype begins with JCOBS_API. To compile jcobs.c in one translation unit with your code, define JCOBS_API as
- * static, and include jcobs.c. If the compiler then warns about functions that your code doesn't call
- * (-Wunused-function), define JCOBS_API as static inline. In a library, define JCOBS_API as the attribute that exports
- * or hides a function, such as __attribute__((visibility("hidden"))). */
+/* Each prototype begins with JCOBS_API. To compile jcobs.c in the same translation unit as your code, define JCOBS_API
+ * as static, and include jcobs.c. If the compiler then warns about functions that your code doesn't call
+ * (-Wunused-function), define JCOBS_API as static inline. To compile jcobs.c into a library of your own, define
+ * JCOBS_API as the attribute that exports or hides a function, such as __attribute__((visibility("hidden"))). */
 #ifndef JCOBS_API
 #define JCOBS_API
 #endif
 
-/* JCOBS_STATUS is the type of the member status of jcobs_answer. This type always has the size of unsigned int: in C
- * and C++, on every target, and also with -fshort-enums. The type is the enum jcobs_status if the header can make sure
- * that this enum has that size; then -Wswitch checks a switch over the status. Otherwise the type is unsigned int. */
+/* JCOBS_STATUS is the type of the member status of jcobs_answer. It always has the size of an unsigned int: in C and
+ * C++, on every target, and even with -fshort-enums. If the header can make sure that the enum jcobs_status has this
+ * size, JCOBS_STATUS is this enum, and -Wswitch checks a switch over the status. Otherwise JCOBS_STATUS is
+ * unsigned int. */
 #if (defined(__cplusplus) && __cplusplus >= 201103L) || (defined(__STDC_VERSION__) && __STDC_VERSION__ >= 202311L)
 #define JCOBS_ENUM(name) enum name : unsigned int
 #define JCOBS_STATUS jcobs_status
@@ -175,15 +179,15 @@ typedef struct jcobs_answer {
 enum jcobs_kind {
     JCOBS_NOT_A_FRAME = 0, /* there are no bytes, a byte is 0, or the bytes break off inside a block */
     JCOBS_CANONICAL = 1,   /* a frame that encoders write */
-    JCOBS_LONGER = 2       /* a frame that encoders write, followed by a byte 1, which doesn't change the message */
+    JCOBS_LONGER = 2       /* a frame that encoders write, followed by the byte 1, which doesn't change the message */
 };
 
 /* The state of a streaming decoder. Only the library uses the members. */
 typedef struct jcobs_decoder {
-    size_t written;         /* how many bytes of the message so far are in the buffer */
-    unsigned char missing;  /* how many bytes of the current block are missing */
-    unsigned char joint;    /* whether the message has a zero after the current block, if another block follows */
-    unsigned char too_long; /* whether the message so far was too long for the buffer */
+    size_t written;         /* how many bytes of the current message are in the buffer */
+    unsigned char missing;  /* how many bytes of the current block haven't arrived yet */
+    unsigned char joint;    /* whether the message has a zero between the current block and the next one */
+    unsigned char too_long; /* whether the current message has become too long for the buffer */
 } jcobs_decoder;
 
 /* The initial state, in which no frame has begun. All members are 0, as after jcobs_decoder_reset. */
@@ -194,9 +198,9 @@ typedef struct jcobs_decoder {
 /* The state of a streaming encoder. Only the library uses the members. The open block is the block that the encoder has
  * begun but not finished; its code isn't written yet. */
 typedef struct jcobs_encoder {
-    size_t index;        /* the index in the buffer at which the code of the open block belongs */
-    unsigned char taken; /* how many bytes the open block has so far, without its code */
-    unsigned char full;  /* whether the last byte made a block full; then no block is open until the next byte */
+    size_t index;        /* the index in the buffer at which the code of the open block will be written */
+    unsigned char taken; /* how many bytes the open block has so far, not counting its code */
+    unsigned char full;  /* whether the last byte made a block full; if so, no block is open until the next byte */
 } jcobs_encoder;
 
 /* The initial state, in which no message has begun. All members are 0, as after jcobs_encoder_reset. */
@@ -207,9 +211,8 @@ typedef struct jcobs_encoder {
 /* With these attributes GCC and Clang check that the result of a call is used, and that a pointer to a state isn't
  * NULL. GCC also checks that the memory at a pointer is at least as long as the length that is passed with the pointer.
  * The parameters `pointer` and `length` of the macros are positions in the list of arguments. The calls that finish a
- * message are marked as calls that only write to the buffer, though they also read the pushed bytes from the buffer.
- * This avoids a warning about messages without pushed bytes: GCC would say that nothing has been written to the
- * buffer. */
+ * message also read the pushed bytes from the buffer, but are marked as calls that only write to it. Otherwise, if no
+ * bytes were pushed, GCC would warn that nothing has been written to the buffer. */
 #ifdef __GNUC__
 #define JCOBS_CHECKED __attribute__((warn_unused_result))
 #define JCOBS_STATE __attribute__((nonnull(1)))
@@ -227,12 +230,12 @@ typedef struct jcobs_encoder {
 #define JCOBS_CHANGES(pointer, length)
 #endif
 
-/* Returns the length of the longest frame of a message of message_len bytes, without a sentinel. This length is
- * message_len plus message_len / 254, rounded up. For the empty message the length is 1.
+/* Returns the greatest length that the frame of a message of message_len bytes can have, not counting a sentinel. This
+ * length is message_len plus message_len / 254, rounded up. For the empty message the length is 1.
  *
- * The macro JCOBS_MAX_LENGTH has the value that the function returns. If its argument is constant, the macro is a
- * constant expression, so an array can have this length. If the value doesn't fit a size_t, the macro wraps around, and
- * the function returns 0. The macro's type is size_t if the argument's type is unsigned and not wider than size_t. The
+ * The macro JCOBS_MAX_LENGTH has the same value as the function. If the argument is a constant, the macro is a constant
+ * expression, so it can be the length of an array. If the value doesn't fit a size_t, the macro wraps around, but the
+ * function returns 0. The macro has the type size_t if the argument's type is unsigned and not wider than size_t. The
  * macro evaluates its argument more than once, and can't be used in #if. */
 #define JCOBS_MAX_LENGTH(message_len)                                                                                  \
     (sizeof(char) * (message_len) + sizeof(char) * (message_len) / 254 +                                               \
@@ -246,27 +249,27 @@ JCOBS_API jcobs_answer jcobs_encode(const void *message, size_t message_len, voi
     JCOBS_READS(1, 2) JCOBS_WRITES(3, 4) JCOBS_CHECKED;
 /* returns:
  * - OK: consumed is message_len, and length is the length of the frame;
- * - TOO_SMALL, exactly if the frame doesn't fit: consumed and length are 0, and the buffer is as it was. */
+ * - TOO_SMALL, if and only if the frame doesn't fit: consumed and length are 0, and the buffer is as it was. */
 
-/* Writes the frame of the message, and a zero after the frame, to the front of the buffer `frame`. A buffer of
+/* Writes the frame of the message, followed by a zero, to the front of the buffer `frame`. A buffer of
  * jcobs_max_length(message_len) + 1 bytes is always long enough. */
 JCOBS_API jcobs_answer jcobs_encode_terminated(const void *message, size_t message_len, void *frame, size_t frame_size)
     JCOBS_READS(1, 2) JCOBS_WRITES(3, 4) JCOBS_CHECKED;
 /* returns:
  * - OK: consumed is message_len, and length is the length of the frame and its zero;
- * - TOO_SMALL, exactly if the frame with its zero doesn't fit: consumed and length are 0, and the buffer is as it was.
- *   */
+ * - TOO_SMALL, if and only if the frame and its zero don't fit: consumed and length are 0, and the buffer is as it
+ *   was. */
 
-/* Encode like jcobs_encode and jcobs_encode_terminated, but for the given sentinel: each byte of the frame is XORed
- * with the sentinel. The second function also writes the sentinel after the frame. */
+/* Encode like jcobs_encode and jcobs_encode_terminated, but XOR each byte of the frame with the given sentinel.
+ * jcobs_encode_terminated_with_sentinel then writes this sentinel after the frame, instead of a zero. */
 JCOBS_API jcobs_answer jcobs_encode_with_sentinel(const void *message, size_t message_len, void *frame,
                                                   size_t frame_size, unsigned char sentinel) JCOBS_READS(1, 2)
     JCOBS_WRITES(3, 4) JCOBS_CHECKED;
-/* returns: as jcobs_encode */
+/* returns: the same as jcobs_encode */
 JCOBS_API jcobs_answer jcobs_encode_terminated_with_sentinel(const void *message, size_t message_len, void *frame,
                                                              size_t frame_size, unsigned char sentinel)
     JCOBS_READS(1, 2) JCOBS_WRITES(3, 4) JCOBS_CHECKED;
-/* returns: as jcobs_encode_terminated */
+/* returns: the same as jcobs_encode_terminated */
 
 /* Encodes a message in its own buffer. Before the call the message, which has message_len bytes, begins at index
  * JCOBS_MAX_OVERHEAD(message_len) of the buffer; the bytes before this index have no effect. After the call the buffer
@@ -276,8 +279,8 @@ JCOBS_API jcobs_answer jcobs_encode_in_place(void *buffer, size_t buffer_size, s
     JCOBS_CHANGES(1, 2) JCOBS_CHECKED;
 /* returns:
  * - OK: consumed is message_len, and length is the length of the frame;
- * - TOO_SMALL, exactly if the buffer is shorter than jcobs_max_length(message_len): consumed and length are 0, and the
- *   buffer is as it was. */
+ * - TOO_SMALL, if and only if the buffer is shorter than jcobs_max_length(message_len): consumed and length are 0, and
+ *   the buffer is as it was. */
 
 /* Decodes the first frame of the source to the front of the buffer `message`. Leading zeros are skipped, and the frame
  * ends at the next zero or at the end of the source. A buffer of source_len bytes is always long enough. */
@@ -285,23 +288,26 @@ JCOBS_API jcobs_answer jcobs_decode(const void *source, size_t source_len, void 
     JCOBS_READS(1, 2) JCOBS_WRITES(3, 4) JCOBS_CHECKED;
 /* returns:
  * - OK: consumed counts the leading zeros, the frame and the zero after it; length is the length of the message;
- * - BROKEN: consumed is as for OK; length is the length of the frame's output, including the block that is cut off;
- * - TOO_SMALL, if the frame's output, including a block that is cut off, is longer than the buffer: consumed is as for
- *   OK; length is message_size. The buffer has the first bytes of the output;
+ * - BROKEN: consumed is the same as for OK; length is the length of the frame's output, including the block that is cut
+ *   off;
+ * - TOO_SMALL, if the frame's output, including a block that is cut off, is longer than the buffer: consumed is the
+ *   same as for OK; length is message_size. The buffer has the first bytes of the output;
  * - EMPTY, if the source has no bytes or only zeros: consumed is source_len, and length is 0. */
 
-/* Decodes the frame at the front of the source, for the given sentinel, to the front of the buffer `message`. The frame
- * ends at the first sentinel or at the end of the source. No sentinel is skipped: if the source begins with a sentinel,
- * the message is empty. Even for the sentinel 0 the results may differ from those of jcobs_decode. That call skips
- * leading zeros, and its output of a broken frame includes the block that is cut off. */
+/* Decodes a frame that was encoded with the given sentinel, and writes the message to the front of the buffer
+ * `message`. The frame is at the front of the source, and ends at the first sentinel or at the end of the source. No
+ * sentinel is skipped: if the source begins with a sentinel, the message is empty. Even if the sentinel is 0, the
+ * results may differ from those of jcobs_decode. The reason is that jcobs_decode skips leading zeros, and that its
+ * output of a broken frame includes the block that is cut off. */
 JCOBS_API jcobs_answer jcobs_decode_with_sentinel(const void *source, size_t source_len, void *message,
                                                   size_t message_size, unsigned char sentinel) JCOBS_READS(1, 2)
     JCOBS_WRITES(3, 4) JCOBS_CHECKED;
 /* returns:
  * - OK: consumed counts the frame and the sentinel after it; length is the length of the message;
- * - BROKEN: consumed is as for OK; length is the length of the frame's output, without the block that is cut off;
- * - TOO_SMALL, if the frame's output, without a block that is cut off, is longer than the buffer: consumed is as for
- *   OK; length is message_size. The buffer has the first bytes of the output;
+ * - BROKEN: consumed is the same as for OK; length is the length of the frame's output, without the block that is cut
+ *   off;
+ * - TOO_SMALL, if the frame's output, without a block that is cut off, is longer than the buffer: consumed is the
+ *   same as for OK; length is message_size. The buffer has the first bytes of the output;
  * - EMPTY, if the source has no bytes: consumed and length are 0. */
 
 /* Decodes the frame at the front of the buffer in place. The frame ends at the first zero or at the end of the buffer.
@@ -310,28 +316,29 @@ JCOBS_API jcobs_answer jcobs_decode_with_sentinel(const void *source, size_t sou
 JCOBS_API jcobs_answer jcobs_decode_in_place(void *buffer, size_t buffer_len) JCOBS_CHANGES(1, 2) JCOBS_CHECKED;
 /* returns:
  * - OK: consumed counts the frame and the zero after it; length is the length of the message;
- * - BROKEN: consumed is as for OK; length is the length of the frame's output, without the block that is cut off;
+ * - BROKEN: consumed is the same as for OK; length is the length of the frame's output, without the block that is cut
+ *   off;
  * - EMPTY, if the buffer has no bytes: consumed and length are 0. */
 
-/* Decodes like jcobs_decode_in_place, but for the given sentinel. This call also XORs the bytes of the buffer from the
- * message's end to the frame's end with the sentinel. The sentinel after the frame and the bytes after that sentinel
- * aren't changed, so the next frame begins at buffer + consumed. */
+/* Decodes like jcobs_decode_in_place, but with the given sentinel. The call first XORs each byte of the frame with the
+ * sentinel, so the bytes between the end of the message and the end of the frame change too. The sentinel after the
+ * frame and the bytes after that sentinel aren't changed: the next frame begins at buffer + consumed. */
 JCOBS_API jcobs_answer jcobs_decode_in_place_with_sentinel(void *buffer, size_t buffer_len, unsigned char sentinel)
     JCOBS_CHANGES(1, 2) JCOBS_CHECKED;
-/* returns: as jcobs_decode_in_place, with the sentinel instead of the zero */
+/* returns: the same as jcobs_decode_in_place, with the sentinel instead of the zero */
 
 /* Returns whether the bytes are a frame for the sentinel 0, and whether that frame is the one that encoders write. */
 JCOBS_API unsigned int jcobs_frame_kind(const void *bytes, size_t len) JCOBS_READS(1, 2) JCOBS_CHECKED;
-/* returns: one of enum jcobs_kind */
+/* returns: a value of the enum jcobs_kind */
 
 /* Resets the decoder to the initial state, from any state. */
 JCOBS_API void jcobs_decoder_reset(jcobs_decoder *decoder) JCOBS_STATE;
 
 /* Decodes the next bytes of a stream in which a zero ends each frame. The call processes the bytes up to and including
  * the first zero that ends a frame, or all bytes if no frame ends in them. If a frame has ended, its message is at the
- * front of the buffer until the next call. The bytes after the zero that ends the frame have no effect: push them in
- * the next call. Every frame is reported once, at the zero that ends it. Zeros between frames are skipped. A frame that
- * is broken, or whose message is too long for the buffer, never affects the next frame.
+ * front of the buffer until the next call. The bytes after the zero that ends the frame have no effect: push them again
+ * in the next call. Every frame is reported once, at the zero that ends it. Zeros between frames are skipped. A frame
+ * that is broken, or whose message is too long for the buffer, never affects the next frame.
  *
  * From the first byte of a frame to the zero that ends it, pass the same buffer with the same size, and don't change
  * the buffer's contents between two calls. Otherwise the status of that frame and the contents of the buffer are
@@ -341,33 +348,35 @@ JCOBS_API jcobs_answer jcobs_decoder_push(jcobs_decoder *decoder, void *buffer, 
 /* returns:
  * - OK: consumed counts the bytes up to and including the zero that ends the frame; length is the length of the
  *   message;
- * - BROKEN: consumed is as for OK; length is the length of the frame's output, including the block that is cut off;
- * - TOO_SMALL, if the frame's output, including a block that is cut off, is longer than the buffer: consumed is as for
- *   OK; length is buffer_size. The buffer has the first bytes of the output;
- * - MORE: consumed is len; length is the number of bytes of the message so far that are in the buffer. */
+ * - BROKEN: consumed is the same as for OK; length is the length of the frame's output, including the block that is cut
+ *   off;
+ * - TOO_SMALL, if the frame's output, including a block that is cut off, is longer than the buffer: consumed is the
+ *   same as for OK; length is buffer_size. The buffer has the first bytes of the output;
+ * - MORE: consumed is len; length is the number of bytes of the unfinished message that are in the buffer. */
 
-/* Decodes one byte of a stream. The call is faster than jcobs_decoder_push with this byte, and has the same effect. */
+/* Decodes one byte of a stream. The call has the same effect as jcobs_decoder_push with this byte, and is faster. */
 JCOBS_API jcobs_answer jcobs_decoder_feed(jcobs_decoder *decoder, void *buffer, size_t buffer_size,
                                           unsigned char byte) JCOBS_STATE JCOBS_WRITES(2, 3) JCOBS_CHECKED;
-/* returns: as jcobs_decoder_push; consumed is 1 */
+/* returns: the same as jcobs_decoder_push; consumed is 1 */
 
-/* Decodes like jcobs_decoder_push, but for a stream in which the given sentinel ends each frame. In the built library
- * this call is slower than jcobs_decoder_push, because it decodes byte by byte. */
+/* Decodes the next bytes of a stream, like jcobs_decoder_push. The frames of this stream were encoded with the given
+ * sentinel, and this sentinel ends each frame. In the built library this call is slower than jcobs_decoder_push,
+ * because it decodes byte by byte. */
 JCOBS_API jcobs_answer jcobs_decoder_push_with_sentinel(jcobs_decoder *decoder, void *buffer, size_t buffer_size,
                                                         const void *bytes, size_t len,
                                                         unsigned char sentinel) JCOBS_STATE JCOBS_WRITES(2, 3)
     JCOBS_READS(4, 5) JCOBS_CHECKED;
-/* returns: as jcobs_decoder_push, with the sentinel instead of the zero */
+/* returns: the same as jcobs_decoder_push, with the sentinel instead of the zero */
 
 /* Returns whether no frame is open. A frame is open from its first byte until the sentinel that ends it. At the end of
- * a stream, the result 0 means that the sentinel of the last frame is missing. */
+ * a stream, the result 0 means that the sentinel after the last frame is missing. */
 JCOBS_API unsigned int jcobs_decoder_is_idle(const jcobs_decoder *decoder) JCOBS_STATE JCOBS_CHECKED;
 /* returns: 1 if no frame is open, and 0 if a frame is open */
 
 /* Resets the encoder to the initial state, from any state. */
 JCOBS_API void jcobs_encoder_reset(jcobs_encoder *encoder) JCOBS_STATE;
 
-/* Encodes the next bytes of a message to the buffer. If these bytes don't fit, you can push fewer bytes, finish the
+/* Encodes the next bytes of a message into the buffer. If these bytes don't fit, you can push fewer bytes, finish the
  * message without these bytes, or drop the message with jcobs_encoder_reset.
  *
  * From the first push of a message until the message is finished, pass the same buffer with the same size, and don't
@@ -375,15 +384,15 @@ JCOBS_API void jcobs_encoder_reset(jcobs_encoder *encoder) JCOBS_STATE;
 JCOBS_API jcobs_answer jcobs_encoder_push(jcobs_encoder *encoder, void *buffer, size_t buffer_size, const void *bytes,
                                           size_t len) JCOBS_STATE JCOBS_WRITES(2, 3) JCOBS_READS(4, 5) JCOBS_CHECKED;
 /* returns:
- * - OK: consumed is len, and length is the length of the frame so far. The frame in the buffer isn't complete before
- *   the message is finished, because only the call that finishes the message writes the code of the open block;
- * - TOO_SMALL, exactly if the frame of the message with these bytes doesn't fit: consumed and length are 0, and the
- *   state and the buffer are as they were. */
+ * - OK: consumed is len, and length is the length of the frame so far. The frame in the buffer isn't complete until the
+ *   message is finished, because only the call that finishes the message writes the code of the open block;
+ * - TOO_SMALL, if and only if the frame of the message, including these bytes, doesn't fit: consumed and length are 0,
+ *   and the state and the buffer are as they were. */
 
-/* Encodes one byte of a message. The call is faster than jcobs_encoder_push with this byte, and has the same effect. */
+/* Encodes one byte of a message. The call has the same effect as jcobs_encoder_push with this byte, and is faster. */
 JCOBS_API jcobs_answer jcobs_encoder_feed(jcobs_encoder *encoder, void *buffer, size_t buffer_size,
                                           unsigned char byte) JCOBS_STATE JCOBS_WRITES(2, 3) JCOBS_CHECKED;
-/* returns: as jcobs_encoder_push; consumed is 1 or 0 */
+/* returns: the same as jcobs_encoder_push; consumed is 1 or 0 */
 
 /* Ends the message. The buffer then begins with the frame that jcobs_encode would write for the message, and the
  * encoder is in the initial state. */
@@ -391,8 +400,8 @@ JCOBS_API jcobs_answer jcobs_encoder_finish(jcobs_encoder *encoder, void *buffer
     JCOBS_WRITES(2, 3) JCOBS_CHECKED;
 /* returns:
  * - OK: consumed is 0, and length is the length of the frame;
- * - TOO_SMALL, only if buffer_size is 0, or if the pushes had another buffer: consumed and length are 0, and the state
- *   and the buffer are as they were. */
+ * - TOO_SMALL, only if buffer_size is 0, or if another buffer was passed to the pushes: consumed and length are 0, and
+ *   the state and the buffer are as they were. */
 
 /* Ends the message like jcobs_encoder_finish, and also writes a zero after the frame. The buffer needs one more byte
  * for the zero. */
@@ -400,30 +409,30 @@ JCOBS_API jcobs_answer jcobs_encoder_finish_terminated(jcobs_encoder *encoder, v
                                                        size_t buffer_size) JCOBS_STATE JCOBS_WRITES(2, 3) JCOBS_CHECKED;
 /* returns:
  * - OK: consumed is 0, and length is the length of the frame and its zero;
- * - TOO_SMALL, if the frame with its zero doesn't fit: consumed and length are 0, and the state and the buffer are as
- *   they were. */
+ * - TOO_SMALL, if the frame and its zero don't fit: consumed and length are 0, and the state and the buffer are as they
+ *   were. */
 
-/* End the message like jcobs_encoder_finish and jcobs_encoder_finish_terminated, but for the given sentinel: each byte
- * of the frame is XORed with the sentinel. The second function also writes the sentinel after the frame. Push the
- * message with jcobs_encoder_push or jcobs_encoder_feed, which are the same for every sentinel. */
+/* End the message like jcobs_encoder_finish and jcobs_encoder_finish_terminated, but XOR each byte of the frame with
+ * the given sentinel. jcobs_encoder_finish_terminated_with_sentinel then writes this sentinel after the frame, instead
+ * of a zero. Push the message with jcobs_encoder_push or jcobs_encoder_feed, whatever the sentinel is. */
 JCOBS_API jcobs_answer jcobs_encoder_finish_with_sentinel(jcobs_encoder *encoder, void *buffer, size_t buffer_size,
                                                           unsigned char sentinel) JCOBS_STATE
     JCOBS_WRITES(2, 3) JCOBS_CHECKED;
-/* returns: as jcobs_encoder_finish */
+/* returns: the same as jcobs_encoder_finish */
 JCOBS_API jcobs_answer jcobs_encoder_finish_terminated_with_sentinel(jcobs_encoder *encoder, void *buffer,
                                                                      size_t buffer_size,
                                                                      unsigned char sentinel) JCOBS_STATE
     JCOBS_WRITES(2, 3) JCOBS_CHECKED;
-/* returns: as jcobs_encoder_finish_terminated */
+/* returns: the same as jcobs_encoder_finish_terminated */
 
-/* Writes a short English description of a status to `text`, with a '\0' after it. A description that doesn't fit is cut
+/* Writes a short English description of a status to `text`, followed by a '\0'. A description that doesn't fit is cut
  * off; JCOBS_TEXT_LENGTH bytes are always enough. If text_size is 0, nothing is written. For a number that isn't a
  * status, the description is "unknown status". */
 #define JCOBS_TEXT_LENGTH 48
 JCOBS_API size_t jcobs_strerror(unsigned int status, char *text, size_t text_size) JCOBS_WRITES(2, 3);
 /* returns: the length of the whole description, without the '\0' */
 
-/* Returns the version of the library, as a number with the form of JCOBS_VERSION. */
+/* Returns the version of the library, as a number in the form of JCOBS_VERSION. */
 JCOBS_API unsigned int jcobs_version(void);
 
 /* Returns 1. A library of another major version has no function of this name, so a program that calls this function

@@ -66,8 +66,8 @@ namespace jcobs
 namespace detail
 {
 
-// Says whether a range has contiguous elements of one byte each, of any type. The value is false for an array of char,
-// because the '\0' at the end of the array would be one of the bytes.
+// Says whether the elements of a range are contiguous and one byte long each. Their type doesn't matter, but for an
+// array of char the value is false, because the '\0' at the end of the array would be one of the bytes.
 template <class Range, class Byte, class = void> struct is_bytes : std::false_type {
 };
 template <class Range, class Byte>
@@ -81,9 +81,9 @@ struct is_bytes<
                                                                 std::is_same_v<std::remove_const_t<element>, char>);
 };
 
-// Says whether a range is a temporary object that owns its bytes. These bytes are destroyed with the object. A type owns
-// its bytes if the bytes of a const object of this type are const, as they are for containers. A view for writing owns
-// no bytes, and its bytes aren't const even if the view is const.
+// Says whether a range is a temporary object that owns its bytes. Such bytes are destroyed with the object. A type owns
+// its bytes, as containers do, if the bytes of a const object of this type are const too. A view for writing owns no
+// bytes: even if the view is const, its bytes aren't.
 template <class Range, class = void> struct is_temporary : std::false_type {
 };
 template <class Range>
@@ -93,11 +93,11 @@ struct is_temporary<Range, std::enable_if_t<!std::is_lvalue_reference_v<Range> &
 
 } // namespace detail
 
-// A pointer to bytes and the number of bytes, like std::span of C++20. A view can be made from any container or view of
-// bytes (unsigned char, char or std::byte). For an array of char, which may end with a '\0', pass a pointer and a
-// length. A view for reading can be made from a temporary object, and is valid as long as that object exists. A view
-// for writing can't be made from a temporary object that owns its bytes, because the written bytes would be destroyed
-// with the object.
+// A pointer to bytes and the number of bytes, like std::span in C++20. A view can be made from any container or view
+// whose elements are bytes (unsigned char, char or std::byte). For an array of char, which may end with a '\0', pass a
+// pointer and a length. A view for reading can be made from a temporary object, and is valid as long as that object
+// exists. A view for writing can't be made from a temporary object that owns its bytes, because the written bytes would
+// be destroyed with the object.
 template <class Byte> class JCOBS_POINTER basic_view
 {
     using anything = std::conditional_t<std::is_const_v<Byte>, const void, void>;
@@ -150,21 +150,21 @@ template <class Byte> class JCOBS_POINTER basic_view
 using view = basic_view<const unsigned char>; // bytes that a function reads
 using buffer = basic_view<unsigned char>;     // bytes that a function writes
 
-// Returns the length of the longest frame of a message of message_len bytes, without a sentinel. Returns 0 if this
-// length doesn't fit a size_t.
+// Returns the greatest length that the frame of a message of message_len bytes can have, not counting a sentinel.
+// Returns 0 if this length doesn't fit a size_t.
 [[nodiscard]] constexpr std::size_t max_length(std::size_t message_len) noexcept
 {
     return JCOBS_MAX_LENGTH(message_len) < message_len ? 0 : JCOBS_MAX_LENGTH(message_len);
 }
 
-// Returns the greatest number of bytes that encoding adds to a message of message_len bytes, without a sentinel.
+// Returns the greatest number of bytes that encoding adds to a message of message_len bytes, not counting a sentinel.
 constexpr std::size_t max_overhead(std::size_t message_len) noexcept
 {
     return JCOBS_MAX_OVERHEAD(message_len);
 }
 
-// encode writes the frame of a message to the front of a buffer, for the sentinel 0 or for the given sentinel.
-// encode_terminated also writes the sentinel after the frame.
+// encode encodes a message with the sentinel 0 or with the given sentinel, and writes the frame to the front of a
+// buffer. encode_terminated also writes the sentinel after the frame.
 [[nodiscard]] inline jcobs_answer encode(view message, buffer frame) noexcept
 {
     return jcobs_encode(message.data(), message.size(), frame.data(), frame.size());
@@ -195,14 +195,15 @@ constexpr std::size_t max_overhead(std::size_t message_len) noexcept
     return jcobs_decode(source.data(), source.size(), message.data(), message.size());
 }
 
-// Decodes the frame at the front of the source, for the given sentinel, to the front of a buffer. No sentinel is
-// skipped: if the source begins with a sentinel, the message is empty.
+// Decodes a frame that was encoded with the given sentinel. The frame is at the front of the source, and the message is
+// written to the front of a buffer. No sentinel is skipped: if the source begins with a sentinel, the message is empty.
 [[nodiscard]] inline jcobs_answer decode_with_sentinel(view source, buffer message, unsigned char sentinel) noexcept
 {
     return jcobs_decode_with_sentinel(source.data(), source.size(), message.data(), message.size(), sentinel);
 }
 
-// Decode the frame at the front of a buffer in place, for the sentinel 0 or for the given sentinel.
+// Decode the frame at the front of a buffer in place. The frame was encoded with the sentinel 0 or with the given
+// sentinel.
 [[nodiscard]] inline jcobs_answer decode_in_place(buffer bytes) noexcept
 {
     return jcobs_decode_in_place(bytes.data(), bytes.size());
@@ -219,9 +220,9 @@ constexpr std::size_t max_overhead(std::size_t message_len) noexcept
     return static_cast<jcobs_kind>(jcobs_frame_kind(bytes.data(), bytes.size()));
 }
 
-// Decodes a stream of frames to a buffer. The sentinel follows each frame, and the stream may be passed in chunks of
-// any size. The buffer must outlive the receiver. A receiver can be moved, but not while a callback of its own push
-// runs. A receiver that was moved from is idle, and has no buffer.
+// Decodes a stream of frames, and writes each message to the front of a buffer. The sentinel follows each frame. The
+// stream may be passed in chunks of any size. The buffer must outlive the receiver. A receiver can be moved, but not
+// while its push runs a callback. A receiver that was moved from is idle, and has no buffer.
 class receiver
 {
   public:
@@ -249,10 +250,10 @@ class receiver
     // message is in the buffer while on_message runs; after that, the next frame may overwrite the message.
     //
     // The member consumed of the jcobs_answer counts only bytes of this push. The count begins after the previous frame
-    // that ended in this push, or at the start of the push.
+    // that ended in this push. If there is none, it begins at the start of the push.
     //
-    // If a callback throws, the push has processed the bytes up to and including the sentinel of the callback's frame,
-    // and no later bytes. The receiver is then idle, and the next push begins a new frame.
+    // If a callback throws, the push has processed the bytes up to and including the sentinel after the frame that the
+    // callback was called for, and no later bytes. The receiver is then idle, and the next push begins a new frame.
     template <class OnMessage, class OnError> void push(view bytes, OnMessage &&on_message, OnError &&on_error)
     {
         consumed_ = 0;
@@ -322,8 +323,8 @@ class receiver
     unsigned char sentinel_;
 };
 
-// Encodes messages that come in chunks, one message after another, to the front of a buffer. The buffer must outlive
-// the sender. A sender can be moved. A sender that was moved from has no message and no buffer.
+// Encodes messages that come in chunks, one message after another, and writes each frame to the front of a buffer. The
+// buffer must outlive the sender. A sender can be moved. A sender that was moved from has no message and no buffer.
 class sender
 {
   public:
@@ -355,11 +356,11 @@ class sender
         return jcobs_encoder_feed(&encoder_, buffer_.data(), buffer_.size(), byte).status == JCOBS_OK;
     }
 
-    // finish ends the message and returns its frame, for the given sentinel. finish_terminated also writes the sentinel
-    // after the frame, and returns the frame with the sentinel. The returned bytes are in the buffer until the next
-    // push, feed or finish. If these bytes don't fit the buffer, the result is an empty view, and nothing has changed;
-    // you can then drop the message with reset. A frame without its sentinel always fits after the pushes, so the
-    // result of finish is empty only if the size of the buffer is 0.
+    // finish ends the message, and returns its frame, which is encoded with the given sentinel. finish_terminated also
+    // writes the sentinel after the frame, and returns the frame with the sentinel. The returned bytes are in the
+    // buffer until the next push, feed or finish. If these bytes don't fit the buffer, the result is an empty view, and
+    // nothing has changed. You can then drop the message with reset. After the pushes, the frame without the sentinel
+    // always fits. So finish returns an empty view only if the size of the buffer is 0.
     [[nodiscard]] view finish(unsigned char sentinel = 0) noexcept
     {
         return for_sentinel(jcobs_encoder_finish(&encoder_, buffer_.data(), buffer_.size()), sentinel);
@@ -376,8 +377,8 @@ class sender
     }
 
   private:
-    // Returns the finished frame, after XORing each byte with the sentinel. The bytes are XORed here, because the
-    // archives for devices don't have the calls that finish a frame for another sentinel.
+    // XORs each byte of the finished frame with the sentinel, and returns the frame. The bytes are XORed here, because
+    // the archives for devices don't have the calls that finish a frame with another sentinel.
     view for_sentinel(jcobs_answer answer, unsigned char sentinel) noexcept
     {
         for (std::size_t i = 0; sentinel != 0 && i < answer.length; i++)

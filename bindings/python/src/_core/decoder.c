@@ -37,7 +37,8 @@ static void decoder_dealloc(PyObject *self)
     free_object(self);
 }
 
-/* Pushes bytes to the decoder, up to and including the next sentinel. Releases the GIL if that sentinel is far away. */
+/* Pushes bytes to the decoder, up to and including the next sentinel. Releases the GIL if at least LONG bytes come
+ * before this sentinel. */
 static jcobs_answer decoder_step(Decoder *self, const unsigned char *bytes, size_t len)
 {
     int far = len >= LONG && memchr(bytes, self->sentinel, LONG) == NULL;
@@ -48,7 +49,7 @@ static jcobs_answer decoder_step(Decoder *self, const unsigned char *bytes, size
     return answer;
 }
 
-/* Appends the outcome of a piece to the list, or returns -1 with an error. */
+/* Appends the outcome of a piece to the list, and returns 0. On failure, raises an error and returns -1. */
 static int decoder_append(Decoder *self, PyObject *list, PyObject *classes, jcobs_answer answer)
 {
     int at = answer.status == JCOBS_OK ? 0 : answer.status == JCOBS_BROKEN ? 1 : 2, done = -1;
@@ -64,10 +65,10 @@ static int decoder_append(Decoder *self, PyObject *list, PyObject *classes, jcob
     return done;
 }
 
-/* Runs signal handlers, and returns -1 with the error if a handler raised one. Lets other threads run if 10 ms have
- * passed since `turn`. A waiting thread asks for the GIL after 5 ms (sys.getswitchinterval), and again 5 ms after each
- * release of the GIL. If this thread released the GIL more often, no other thread would have asked for it, and this
- * thread would get it back at once. */
+/* Runs signal handlers, and returns -1 with the error if a handler raised one. If 10 ms have passed since `turn`, also
+ * lets other threads run. It is useless to do so more often: a thread that waits for the GIL asks for it only after
+ * 5 ms (sys.getswitchinterval), and again 5 ms after each release. If no other thread has asked for the GIL, a thread
+ * that releases it gets it back at once. */
 static int have_turn(clock_t *turn)
 {
     clock_t now = clock();
@@ -79,7 +80,7 @@ static int have_turn(clock_t *turn)
     return PyErr_CheckSignals();
 }
 
-/* Decodes a chunk, and returns the list of outcomes. */
+/* Decodes a chunk, and returns the list of outcomes. On failure, raises an error and returns NULL. */
 static PyObject *decoder_outcomes(Decoder *self, PyObject *chunk, PyObject *classes)
 {
     size_t at = 0, stop = TURN, len = (size_t)PyBytes_Size(chunk);
@@ -104,9 +105,9 @@ static PyObject *decoder_outcomes(Decoder *self, PyObject *chunk, PyObject *clas
     return list;
 }
 
-/* feed(chunk, classes): returns a list of objects of the three classes. While the chunk is decoded, an error occurs only
- * at the end of a frame, so the decoder is then in its initial state; the rest of the chunk is dropped. The decoder is
- * also reset if there is no memory for a copy of the chunk, or for the list. */
+/* feed(chunk, classes): returns a list of objects of the three classes. While the chunk is decoded, an error occurs
+ * only at the end of a frame. So the decoder is then in its initial state, and the rest of the chunk is dropped. The
+ * decoder is also reset if there is no memory for a copy of the chunk, or for the list. */
 static PyObject *decoder_feed(PyObject *object, PyObject *const *args, Py_ssize_t count)
 {
     Decoder *self = (Decoder *)object;

@@ -43,7 +43,7 @@ static void encoder_dealloc(PyObject *self)
     free_object(self);
 }
 
-/* feed(data): takes the next bytes of the message, or none of them if the message would be too long. */
+/* feed(data): takes the next bytes of the message, or none of them if the message would become too long. */
 static PyObject *encoder_feed(PyObject *object, PyObject *data)
 {
     Encoder *self = (Encoder *)object;
@@ -76,8 +76,8 @@ static PyObject *encoder_feed(PyObject *object, PyObject *data)
     Py_RETURN_NONE;
 }
 
-/* finish(terminated): returns the frame of the message. Afterwards the encoder is in its initial state, even if there
- * is no memory for the frame. */
+/* finish(terminated): returns the frame of the message. After the call the encoder is in its initial state, even if
+ * there was no memory for the frame. */
 static PyObject *encoder_finish(PyObject *object, PyObject *args)
 {
     Encoder *self = (Encoder *)object;

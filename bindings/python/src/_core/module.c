@@ -1,4 +1,4 @@
-/* The module: its functions, and how it is made. */
+/* The functions of the module, and the definition of the module. */
 #include <stdlib.h>
 #include <string.h>
 #if defined(__x86_64__) && !defined(JCOBS_COMPILED)
@@ -7,7 +7,8 @@
 
 #include "core.h"
 
-/* Decodes a frame that has no sentinels around it, for any sentinel. The buffer is always long enough. */
+/* Decodes a frame that was encoded with the given sentinel. No sentinel comes before or after the frame. The caller's
+ * buffer is always long enough. */
 static jcobs_answer decode_frame(const unsigned char *frame, size_t len, unsigned char *message, size_t room,
                                  unsigned char sentinel)
 {
@@ -19,7 +20,8 @@ static jcobs_answer decode_frame(const unsigned char *frame, size_t len, unsigne
     return push(&decoder, message, room, &sentinel, 1, sentinel);
 }
 
-/* Encodes the message to a new bytes object, or returns NULL with MemoryError. */
+/* Encodes the message into a new bytes object, and returns this object. On failure, raises MemoryError and returns
+ * NULL. */
 static PyObject *encoded(PyObject *message, unsigned char sentinel, int terminated)
 {
     size_t len = (size_t)PyBytes_Size(message), room = jcobs_max_length(len) + (size_t)terminated;
@@ -63,7 +65,8 @@ static PyObject *core_encode(PyObject *module, PyObject *const *args, Py_ssize_t
     return frame;
 }
 
-/* Decodes the first frame of the source to a new bytes object, or returns NULL with MemoryError. */
+/* Decodes the first frame of the source into a new bytes object, and returns this object. On failure, raises
+ * MemoryError and returns NULL. */
 static PyObject *decoded(PyObject *source, unsigned char sentinel, unsigned int *status)
 {
     size_t len = (size_t)PyBytes_Size(source), room;
@@ -183,7 +186,7 @@ static PyObject *core_max_length(PyObject *module, PyObject *const *args, Py_ssi
     return PyLong_FromSize_t(jcobs_max_length(len));
 }
 
-/* The documentation of the functions. The first line of each text has the arguments for inspect.signature. The
+/* The documentation of the functions. inspect.signature reads the arguments from the first line of each text. The
  * functions of _plain.py have the same documentation; the tests compare the two texts. */
 static const char encode_document[] =
     "encode(data, *, sentinel=0, terminated=False)\n--\n\n"
@@ -195,8 +198,8 @@ static const char encode_document[] =
 static const char decode_document[] =
     "decode(frame, *, sentinel=0)\n--\n\n"
     "Decodes a frame, and returns its message.\n\n"
-    "Leading sentinels are skipped, and the frame ends at the next sentinel or at the last byte. The bytes after that\n"
-    "sentinel are ignored: to decode more than one frame, use a `Decoder`.\n\n"
+    "Leading sentinels are skipped, and the frame ends at the next sentinel or at the last byte. The bytes after the\n"
+    "sentinel that ends the frame are ignored: to decode more than one frame, use a `Decoder`.\n\n"
     "Raises `DecodeError` if the frame breaks off inside a block, or if there is no frame.\n\n"
     ">>> jcobs.decode(b\"\\x06hello\")\n"
     "b'hello'\n"
@@ -206,15 +209,15 @@ static const char frame_kind_document[] =
     "frame_kind(frame, *, sentinel=0)\n--\n\n"
     "Returns whether bytes are a frame, and whether `encode` returns this frame.\n\n"
     "Pass the bytes without the sentinels before and after them. The result is \"canonical\" if `encode` returns this\n"
-    "frame for some message, and \"longer\" if the frame has one needless block at its end, which decoders accept. If\n"
-    "the bytes aren't a frame, the result is \"not_a_frame\".\n\n"
+    "frame for some message. It is \"longer\" if the frame has one needless block at its end; decoders accept such a\n"
+    "frame. It is \"not_a_frame\" if the bytes aren't a frame.\n\n"
     ">>> jcobs.frame_kind(b\"\\x06hello\")\n"
     "'canonical'\n"
     ">>> jcobs.frame_kind(b\"\\x06hel\")\n"
     "'not_a_frame'";
 static const char max_length_document[] =
     "max_length(length)\n--\n\n"
-    "Returns the length of the longest frame of a message of `length` bytes, without a sentinel.\n\n"
+    "Returns the greatest length that the frame of a message of `length` bytes can have, not counting a sentinel.\n\n"
     ">>> jcobs.max_length(254), jcobs.max_length(255)\n"
     "(255, 257)";
 
@@ -226,7 +229,7 @@ static PyMethodDef functions[] = {
     {NULL, NULL, 0, NULL},
 };
 
-/* Adds a type to the module, or returns -1 with an error. */
+/* Adds a type to the module, and returns 0. On failure, raises an error and returns -1. */
 static int add_type(PyObject *module, const char *name, PyType_Spec *spec)
 {
     PyObject *type = PyType_FromSpec(spec);
@@ -238,8 +241,8 @@ static int add_type(PyObject *module, const char *name, PyType_Spec *spec)
     return 0;
 }
 
-/* The code that encodes and decodes: "prebuilt" is libjcobs, which Rattle's compiler built from the proved source;
- * "compiled" is jcobs.c, compiled here. */
+/* The name of the code that encodes and decodes. "prebuilt" is libjcobs, which Rattle's compiler built from the proved
+ * source. "compiled" is jcobs.c, which is compiled together with this file. */
 #ifdef JCOBS_COMPILED
 #define BACKEND "compiled"
 #else
@@ -256,7 +259,7 @@ static int fill(PyObject *module)
                : 0;
 }
 
-/* CPython 3.12 has a slot by which a module says that it may be imported into an interpreter with a GIL of its own.
+/* CPython 3.12 has a slot with which a module says that it may be imported into an interpreter with a GIL of its own.
  * Older versions raise an error for this slot, and the headers for the stable ABI of 3.9 don't name it. */
 #define MULTIPLE_INTERPRETERS 3
 #define PER_INTERPRETER_GIL_SUPPORTED ((void *)2)

@@ -45,8 +45,8 @@ static PyObject *outcome_new(PyTypeObject *type, PyObject *args, PyObject *kwarg
 
 PyObject *outcome_of(PyObject *class, PyObject *data)
 {
-    /* If outcome_new makes the objects of a class, the class has no __init__ of its own (see _streams.py), so no
-     * __init__ is called. */
+    /* If outcome_new is the constructor of a class, the class has no __init__ of its own (see _streams.py). So it isn't
+     * necessary to call an __init__. */
     if (PyType_Check(class) && (PyType_GetFlags((PyTypeObject *)class) & Py_TPFLAGS_HEAPTYPE) &&
         PyType_GetSlot((PyTypeObject *)class, Py_tp_new) == (void *)outcome_new)
         return outcome_make((PyTypeObject *)class, data);
@@ -83,8 +83,8 @@ static PyObject *outcome_compare(PyObject *self, PyObject *other, int operation)
     return PyObject_RichCompare(((Outcome *)self)->data, ((Outcome *)other)->data, operation);
 }
 
-/* Returns the class, its argument and the attributes that a subclass has added. Python's modules `copy` and `pickle`
- * make a copy from this tuple. */
+/* Returns a tuple of the class, its argument and the attributes that a subclass has added. Python's modules `copy` and
+ * `pickle` make a copy from this tuple. */
 static PyObject *outcome_reduce(PyObject *self, PyObject *none)
 {
     PyObject *added = PyObject_GetAttrString(self, "__dict__");

@@ -1,7 +1,7 @@
 /* The code that the functions and the types share. */
 #include "core.h"
 
-/* Adds the name of the wrong argument to a TypeError that Python raised itself; the message of such an error contains
+/* If Python itself raised a TypeError, adds the name of the wrong argument to it. The message of such an error contains
  * `text`. A TypeError that a method of the argument raised isn't changed. */
 static void wrong_type(const char *name, const char *wanted, PyObject *given, const char *text)
 {
@@ -59,7 +59,8 @@ unsigned char *start_of(PyObject *bytes)
     return (unsigned char *)PyBytes_AsString(bytes);
 }
 
-/* Puts an argument that is passed by name at its place in `found`, or returns 0 with TypeError. */
+/* Writes an argument that is passed by name to its place in `found`, and returns 1. On failure, raises TypeError and
+ * returns 0. */
 static int place(const Signature *signature, PyObject *name, PyObject *value, PyObject **found)
 {
     Py_ssize_t i = 0;

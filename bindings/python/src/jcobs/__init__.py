@@ -13,14 +13,14 @@ b'\\x06hello\\x06world\\x00'
 [Message(b'hello\\x00world'), Message(b'hi')]
 
 The arguments `data`, `frame` and `chunk` are bytes, or any other contiguous bytes-like object, such as a bytearray, a
-memoryview, an array.array or an mmap. Each function and method raises TypeError for any other object, and BufferError
-for an object whose bytes aren't contiguous.
+memoryview, an array.array or an mmap. Each function and method raises TypeError for an object that isn't bytes-like,
+and BufferError for an object whose bytes aren't contiguous.
 
 `sentinel` is an integer from 0 to 255; any other integer raises ValueError. `length` and `max_length` are numbers of
 bytes: a negative number raises ValueError, and a number above `sys.maxsize` raises OverflowError.
 """
 
-__version__ = "1.0.0"  # the modules below compare this version with that of the extension
+__version__ = "1.0.0"  # the modules below compare this version with the version of the extension
 
 from jcobs._async import AsyncFrameReader
 from jcobs._backend import backend

@@ -73,7 +73,7 @@ def text_of(message: bytes) -> str:
 def members_of(outcome: Outcome) -> Dict[str, Any]:
     """Returns the members of an outcome's JSON object, except the member `kind`.
 
-    For a broken or too long frame these members describe the bytes that were decoded.
+    If the frame is broken or too long, these members describe the bytes that were decoded.
     """
     members = {"length": len(outcome.data), "hex": outcome.data.hex()}
     if not isinstance(outcome, Message):
@@ -85,7 +85,7 @@ def members_of(outcome: Outcome) -> Dict[str, Any]:
 
 
 def line_of(outcome: Outcome, options: argparse.Namespace) -> str:
-    """Returns the line that shows an outcome. The names of JSON members are those that the program cobs_watch uses."""
+    """Returns the line that shows an outcome. The JSON members have the names that the program cobs_watch uses."""
     name = NAMES[type(outcome)]
     if options.json:
         return json.dumps({"kind": name.replace(" ", "-"), **members_of(outcome)})
@@ -148,7 +148,7 @@ def main(words: Optional[List[str]] = None) -> int:
     try:
         run(options)
     except BrokenPipeError:
-        # No one reads the output any more; the interpreter flushes it once more at its end.
+        # Nobody reads the output any more, but the interpreter flushes it once more when it exits.
         os.dup2(os.open(os.devnull, os.O_WRONLY), sys.stdout.fileno())
     except (Fault, OSError, MemoryError, OverflowError) as error:
         print(f"jcobs: {str(error) or 'out of memory'}", file=sys.stderr)

@@ -10,7 +10,7 @@ from typing import Any, Callable, Dict, List, Optional, TypeVar, cast
 
 _Method = TypeVar("_Method", bound=Callable[..., Any])
 
-# For each use of an object, the stack frames of the calls that have begun and not ended.
+# For each use of an object, the stack frames of the calls that have begun but not ended.
 Calls = Dict[str, List[FrameType]]
 
 
@@ -29,16 +29,16 @@ def is_at_work(frame: FrameType) -> bool:
 def begins(calls: List[FrameType], mine: FrameType) -> bool:
     """Adds the stack frame of a call to `calls`, and returns whether no other call in `calls` is running.
 
-    If another call is running, the stack frame is removed again. The stack frame of a call that has ended may still be
-    in `calls`, if a signal handler raised an exception before the call could remove it. Only such a stack frame is
-    removed by another call.
+    If another call is running, the stack frame is removed again. A call that has ended may have left its stack frame in
+    `calls`, if a signal handler raised an exception before the call could remove it. This function removes the stack
+    frames of such calls, and of no other calls.
     """
     calls.append(mine)
     while (first := calls[0]) is not mine:
         if is_at_work(first):
             calls.remove(mine)
             return False
-        with suppress(ValueError):  # another thread has taken it out
+        with suppress(ValueError):  # another thread has removed it
             calls.remove(first)
     return True
 
@@ -46,12 +46,12 @@ def begins(calls: List[FrameType], mine: FrameType) -> bool:
 def alone(what: str, use: Optional[str] = None) -> Callable[[_Method], _Method]:
     """Makes a method raise RuntimeError while another call is running on its object, in any thread or signal handler.
 
-    Methods with different values of `use` may run at the same time. The object must have a dictionary `_calls`, which is empty at
-    first.
+    Methods with different values of `use` may run at the same time. The object must have a dictionary `_calls`, which
+    is empty at first.
 
-    The finally clause calls nothing, because CPython from 3.11 on runs signal handlers after calls. In older versions,
-    and on PyPy, a handler may raise an exception inside the finally clause too: then the next call finds that this call
-    has ended.
+    The finally clause makes no calls, because CPython 3.11 and later versions run signal handlers after calls. In older
+    versions, and on PyPy, a signal handler may raise an exception even inside the finally clause. In this case the next
+    call finds out that this call has ended.
     """
     use = use or what
 

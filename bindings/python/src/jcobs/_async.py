@@ -17,8 +17,8 @@ if TYPE_CHECKING:
 
     from _typeshed import ReadableBuffer
 
-# The shortest wait in seconds for a stream of trio or anyio. These libraries look for a cancellation before they look
-# for bytes, so with a wait of 0 they would return no bytes.
+# The shortest time in seconds to wait for bytes of a stream of trio or anyio. These libraries check for a cancellation
+# before they check for bytes, so with a wait of 0 they would return no bytes.
 SHORTEST = 0.01
 
 
@@ -108,7 +108,7 @@ class AsyncFrameReader(Frames):
             await self._stream.aclose()
 
     async def _receive(self) -> bytes:
-        """Reads the bytes that the stream has, or waits for some."""
+        """Returns the bytes that have arrived. If no bytes have arrived, waits until some arrive."""
         if self._name != "receive":
             chunk: bytes = await getattr(self._stream, self._name)(CHUNK)
             return chunk
@@ -121,7 +121,7 @@ class AsyncFrameReader(Frames):
             return b""
 
     async def _take(self) -> bytes:
-        """Decodes the bytes of one read, and returns them, or b"" at the end of the stream.
+        """Reads once, and decodes the bytes. Returns the bytes that were read, or b"" at the end of the stream.
 
         Nothing is awaited between the read and the decoding.
         """
@@ -130,7 +130,7 @@ class AsyncFrameReader(Frames):
         return self._decode()
 
     async def _take_within(self, timeout: float) -> Optional[bytes]:
-        """Decodes the bytes of one read, like `_take`, but returns None if no bytes arrive within `timeout` seconds."""
+        """Reads once and decodes, like `_take`, but returns None if no bytes arrive within `timeout` seconds."""
         if self._name == "read":
             return await self._take_by_a_task(timeout)
         library: Any = importlib.import_module("trio" if self._name == "receive_some" else "anyio")
@@ -179,7 +179,7 @@ class AsyncFrameReader(Frames):
         return self._pending.popleft()
 
     def messages(self) -> AsyncIterator[bytes]:
-        """Yields the bytes of each message, and skips broken and too long frames."""
+        """Yields the bytes of each message, and skips frames that are broken or too long."""
         return AsyncMessages(self)
 
     async def discard(self, quiet: float = 0.05) -> None:
@@ -201,9 +201,9 @@ class AsyncFrameReader(Frames):
     async def write(self, message: ReadableBuffer) -> None:
         """Sends a message as a frame, and the sentinel after the frame. Raises TypeError if there is no `writer`.
 
-        If this call is cancelled or fails, a stream of trio or anyio may have sent a part of the frame. The next write
-        then first sends bytes that end the cut frame. For the cut frame, the receiver reports at most one `Broken` or
-        `TooLong`.
+        If this call is cancelled or fails, a stream of trio or anyio may have sent a part of the frame. In this case
+        the next write first sends bytes that end the cut frame. For the cut frame, the receiver reports at most one
+        `Broken` or `TooLong`.
         """
         if self._writer is None:
             raise TypeError("to write, pass the stream's writer: AsyncFrameReader(stream, writer=writer)")
@@ -211,7 +211,7 @@ class AsyncFrameReader(Frames):
             await self._send(message)
             return
         self._writer.write(self._out(message))
-        self._sent()  # the writer has all of it, and sends it even if this call is cancelled
+        self._sent()  # the writer has the whole frame, and sends it even if this call is cancelled
         await self._writer.drain()
 
     async def _send(self, message: ReadableBuffer) -> None:
@@ -243,7 +243,7 @@ class AsyncFrameReader(Frames):
 
 
 class AsyncMessages:
-    """The messages of a reader. A generator would end when it is cancelled; this iterator continues."""
+    """An iterator over the messages of a reader. Unlike a generator, it can be used again after a cancellation."""
 
     def __init__(self, reader: AsyncFrameReader) -> None:
         self._reader = reader

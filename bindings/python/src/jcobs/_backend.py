@@ -1,8 +1,8 @@
 """Chooses the code to use: the extension `_core` if it can be loaded, otherwise `_plain`, which is written in Python.
 
-If the environment variable JCOBS_BACKEND is "python", `_plain` does the work. With "prebuilt" or "compiled",
-ImportError is raised if the extension can't be loaded. An extension of another version, which an installation may have
-left behind, isn't used.
+If the environment variable JCOBS_BACKEND is "python", `_plain` is used. If it is "prebuilt" or "compiled", and the
+extension can't be loaded, ImportError is raised. An earlier installation may have left an extension of another version.
+Such an extension isn't used.
 """
 
 from __future__ import annotations

@@ -11,13 +11,13 @@ import sys
 from typing import Any, Callable, Deque, Iterable, Optional, Protocol
 
 CHUNK = 65536
-# Stands for bytes that were read and are lost. Code recognizes this object by its identity.
+# This object stands for bytes that were read and then lost. It is recognized by its identity.
 GAP = bytes(bytearray(b"gap"))
 
 Kept = Deque[bytes]
-# A function that reads the bytes that a file has, or waits for some, and keeps them. At the end of the stream it keeps
-# empty bytes. The second parameter is the timeout in seconds; None means the file's own timeout. The function returns
-# False if no bytes have arrived before the timeout.
+# A function that reads the bytes of a file that have arrived, and keeps them. If no bytes have arrived, the function
+# waits until some arrive. At the end of the stream it keeps empty bytes. The second parameter is the timeout in
+# seconds; None means the file's own timeout. The function returns False if no bytes have arrived before the timeout.
 Read = Callable[[Any, Optional[float], Kept], bool]
 
 
@@ -25,7 +25,7 @@ class Readable(Protocol):
     """An object with `read`, such as a binary file or a `serial.Serial`."""
 
     def read(self, size: int, /) -> Optional[bytes]:
-        """Returns at most `size` bytes: no bytes at the end of the file, or None if no bytes have arrived."""
+        """Returns at most `size` bytes, no bytes at the end of the file, or None if no bytes have arrived."""
 
 
 class Receivable(Protocol):
@@ -36,11 +36,11 @@ class Receivable(Protocol):
 
 
 def keep(kept: Kept, read: Callable[[int], Optional[bytes]], size: int, in_python: bool = False) -> bool:
-    """Reads bytes and keeps them, unless the file has none now.
+    """Reads bytes and keeps them. If no bytes have arrived, keeps nothing, and returns False.
 
-    If `read` is a function in C, no bytecode runs after the read and before the bytes are kept. So no byte that was
-    read is lost if a signal handler raises an exception. If a `read` that is written in Python (`in_python`) is
-    interrupted, it may have lost bytes: then a GAP is kept.
+    If `read` is written in C, no bytecode runs after the read and before the bytes are kept. So if a signal handler
+    raises an exception, no byte that was read is lost. If `read` is written in Python (`in_python`), and an exception
+    interrupts it, it may have lost bytes. In this case a GAP is kept.
     """
     try:
         kept.extend(map(read, (size,)))  # type: ignore[arg-type]
@@ -57,7 +57,7 @@ def keep(kept: Kept, read: Callable[[int], Optional[bytes]], size: int, in_pytho
 
 
 def descriptor_of(file: Any) -> Optional[int]:
-    """Returns a file's descriptor, or None if it has none."""
+    """Returns a file's descriptor, or None if the file has no descriptor."""
     try:
         return int(file.fileno())
     except (AttributeError, io.UnsupportedOperation):
@@ -88,10 +88,10 @@ def is_ready(file: Any, timeout: float) -> bool:
 
 
 def read_port(port: Any, timeout: Optional[float], kept: Kept) -> bool:
-    """Reads the bytes that a serial port has, or waits for the next byte.
+    """Reads the bytes that have arrived at a serial port. If no bytes have arrived, waits for the next byte.
 
-    This function waits on the descriptor. If it set the port's own timeout instead, the port would be configured again
-    while bytes are arriving.
+    The function waits on the descriptor. It doesn't set the port's own timeout, because that would configure the port
+    again while bytes are arriving.
     """
     waiting = port.in_waiting
     if not waiting:
@@ -104,7 +104,7 @@ def read_port(port: Any, timeout: Optional[float], kept: Kept) -> bool:
 
 
 def read_port_by_its_timeout(port: Any, timeout: Optional[float], kept: Kept) -> bool:
-    """Reads the bytes that a port without a descriptor (on Windows, or of rfc2217://) has, or waits for the next byte."""
+    """Does what `read_port` does, but for a port without a descriptor: a port on Windows, or a port of rfc2217://."""
     waiting = port.in_waiting
     if waiting or timeout is None:
         return keep_some(kept, port, waiting)
@@ -117,9 +117,10 @@ def read_port_by_its_timeout(port: Any, timeout: Optional[float], kept: Kept) ->
 
 
 def read_port_at_a_socket(port: Any, timeout: Optional[float], kept: Kept) -> bool:
-    """Reads the bytes that a port of socket:// has, or waits for some.
+    """Does what `read_port` does, but for a port of socket://.
 
-    The port's `in_waiting` is 1 for any number of waiting bytes above 0, so it isn't used.
+    The `in_waiting` of such a port is 1 if any bytes are waiting, however many there are. So this function doesn't use
+    `in_waiting`.
     """
     own = port.timeout
     if not wait([port.fileno()], own if timeout is None else timeout):
@@ -132,9 +133,9 @@ def read_port_at_a_socket(port: Any, timeout: Optional[float], kept: Kept) -> bo
 
 
 def keep_some(kept: Kept, port: Any, waiting: int) -> bool:
-    """Reads the `waiting` bytes, or waits for 1 byte, and keeps them.
+    """Reads `waiting` bytes and keeps them. If `waiting` is 0, waits for 1 byte.
 
-    A port has no end. So if no byte was read, the port's timeout has passed.
+    A port has no end. So if no byte was read, the port's timeout has passed, and the function returns False.
     """
     keep(kept, port.read, min(max(waiting, 1), CHUNK), in_python=True)
     if kept[-1]:
@@ -144,7 +145,7 @@ def keep_some(kept: Kept, port: Any, waiting: int) -> bool:
 
 
 def read_socket(sock: Any, timeout: Optional[float], kept: Kept) -> bool:
-    """Reads the bytes that a socket has, or waits for some."""
+    """Reads the bytes that have arrived at a socket. If no bytes have arrived, waits until some arrive."""
     if timeout is not None and not is_ready(sock, timeout):
         return False
     try:
@@ -158,9 +159,10 @@ def read_socket(sock: Any, timeout: Optional[float], kept: Kept) -> bool:
 
 
 def read_ssl(sock: Any, timeout: Optional[float], kept: Kept) -> bool:
-    """Reads the bytes that an SSL socket has, or waits for some.
+    """Reads the bytes that have arrived at an SSL socket. If no bytes have arrived, waits until some arrive.
 
-    The socket may be readable because of a record without data. So the timeout of the socket itself is used.
+    An SSL socket may be readable only because a record without data has arrived. So the function doesn't wait until the
+    socket is readable: it sets the timeout of the socket itself.
     """
     from ssl import SSLWantReadError
 
@@ -177,7 +179,7 @@ def read_ssl(sock: Any, timeout: Optional[float], kept: Kept) -> bool:
 
 
 def waits(file: Any) -> bool:
-    """Returns whether a read of a file waits for bytes."""
+    """Returns whether a read of this file waits until bytes arrive."""
     try:
         return os.get_blocking(file.fileno())
     except (AttributeError, io.UnsupportedOperation):
@@ -185,14 +187,14 @@ def waits(file: Any) -> bool:
 
 
 def read_file(file: Any, timeout: Optional[float], kept: Kept) -> bool:
-    """Reads the bytes that a file has, or waits for some."""
+    """Reads the bytes of a file that have arrived. If no bytes have arrived, waits until some arrive."""
     if timeout is not None and not is_ready(file, timeout):
         return False
     of_socket = isinstance(getattr(file, "raw", file), socket.SocketIO)
     found = keep(kept, getattr(file, "read1", file.read), CHUNK, in_python=of_socket)
     if (not found or not kept[-1]) and hasattr(file, "raw") and not waits(file):
-        # If `read1` returns empty bytes, the file is at its end. Up to Python 3.13 empty bytes may also mean that no
-        # bytes have arrived. In both cases the file's own buffer is empty.
+        # If `read1` returns empty bytes, the file is at its end. Up to Python 3.13, empty bytes may also mean that no
+        # bytes have arrived. In both cases the file's own buffer is empty, so the raw file can be read.
         if found:
             kept.pop()
         return keep(kept, file.raw.read, CHUNK)
@@ -216,7 +218,7 @@ def read_of(file: Any) -> Read:
 
 
 def send(file: Any, data: bytes) -> None:
-    """Writes all of the data to a file, or raises an exception; a part of the data may then have been written."""
+    """Writes all of the data to a file. If an exception is raised, a part of the data may have been written."""
     if hasattr(file, "sendall"):
         file.sendall(data)
         return

@@ -15,13 +15,13 @@ FrameKind = Literal["not_a_frame", "canonical", "longer"]
 
 
 class DecodeError(ValueError):
-    """Raised by `decode` if the frame is broken or there is no frame, and by `request` of a reader if the reply is broken
-    or too long.
+    """Raised by `decode` if the frame is broken or there is no frame, and by a reader's `request` if the reply is
+    broken or too long.
 
-    `kind` is "broken" if the frame breaks off inside a block, and "empty" if there are no bytes, or only sentinels. In
-    the error of a reader, `kind` is "too_long" if the reply is longer than the reader's `max_length`. `data` is the
-    bytes that the frame decodes to before it breaks off. In the error of a reader, `data` has at most `max_length`
-    bytes.
+    `kind` is "broken" if the frame breaks off inside a block, and "empty" if there are no bytes, or only sentinels. If
+    a reader raises the error, `kind` may also be "too_long": then the reply is longer than the reader's `max_length`.
+    `data` is the bytes that the frame decodes to before it breaks off. If a reader raises the error, `data` has at most
+    `max_length` bytes.
 
     >>> try:
     ...     jcobs.decode(b"\\x06hel")
@@ -55,9 +55,9 @@ max_length = core.max_length
 def encode_in_place(buffer: WriteableBuffer, length: int, *, sentinel: int = 0) -> int:
     """Encodes a message in place in `buffer`, and returns the length of the frame.
 
-    Before the call the message, which has `length` bytes, begins at index `max_length(length) - length` of `buffer`; the
-    bytes before this index have no effect. After the call `buffer` begins with the frame, and the bytes after the frame
-    are as they were.
+    Before the call the message, which has `length` bytes, begins at index `max_length(length) - length` of `buffer`.
+    The bytes before this index have no effect. After the call `buffer` begins with the frame, and the bytes after the
+    frame are as they were.
 
     This function calls `encode` with a copy of the message, so it is no faster than `encode`. It remains for scripts
     that already use it.

@@ -1,7 +1,6 @@
 """The calls of the extension `_core`, written in Python, for use without the extension.
 
-Each byte of a frame for a sentinel other than 0 is XORed with that sentinel, so the loops have to handle only the
-sentinel 0.
+If the sentinel isn't 0, each byte of a frame is XORed with the sentinel. So the loops handle only the sentinel 0.
 """
 
 from __future__ import annotations
@@ -27,7 +26,7 @@ FULL = 254
 
 
 def bytes_of(data: ReadableBuffer, name: str) -> bytes:
-    """Returns an argument as bytes. An object of another type is copied."""
+    """Returns an argument as a bytes object. If the argument is of another type, its bytes are copied."""
     if isinstance(data, bytes):
         return data
     if isinstance(data, bytearray):
@@ -79,7 +78,7 @@ def xored(data: bytes, sentinel: int) -> bytes:
 
 
 def frame_of(message: bytes) -> bytes:
-    """Returns the frame for the sentinel 0."""
+    """Returns the frame of a message for the sentinel 0."""
     frame, run, full = bytearray(), b"", 0
     for run in message.split(b"\0"):
         full = len(run) - len(run) % FULL
@@ -89,12 +88,12 @@ def frame_of(message: bytes) -> bytes:
         frame.append(len(run) - full + 1)
         frame += run[full:]
     if run and full == len(run):
-        del frame[-1]  # no block follows a full one that ends the message
+        del frame[-1]  # if the message ends in a full block, no block follows it
     return bytes(frame)
 
 
 def output(piece: bytes) -> Tuple[bool, bytes]:
-    """Returns whether a piece breaks off inside a block, and the bytes it decodes to."""
+    """Returns whether a piece breaks off inside a block, and the bytes that the piece decodes to."""
     data, at, size = bytearray(), 0, len(piece)
     while at < size:
         code = piece[at]
@@ -120,8 +119,8 @@ def encode(data: ReadableBuffer, *, sentinel: int = 0, terminated: bool = False)
 def decode(frame: ReadableBuffer, *, sentinel: int = 0) -> bytes:
     """Decodes a frame, and returns its message.
 
-    Leading sentinels are skipped, and the frame ends at the next sentinel or at the last byte. The bytes after that
-    sentinel are ignored: to decode more than one frame, use a `Decoder`.
+    Leading sentinels are skipped, and the frame ends at the next sentinel or at the last byte. The bytes after the
+    sentinel that ends the frame are ignored: to decode more than one frame, use a `Decoder`.
 
     Raises `DecodeError` if the frame breaks off inside a block, or if there is no frame.
 
@@ -146,8 +145,8 @@ def frame_kind(frame: ReadableBuffer, *, sentinel: int = 0) -> FrameKind:
     """Returns whether bytes are a frame, and whether `encode` returns this frame.
 
     Pass the bytes without the sentinels before and after them. The result is "canonical" if `encode` returns this
-    frame for some message, and "longer" if the frame has one needless block at its end, which decoders accept. If
-    the bytes aren't a frame, the result is "not_a_frame".
+    frame for some message. It is "longer" if the frame has one needless block at its end; decoders accept such a
+    frame. It is "not_a_frame" if the bytes aren't a frame.
 
     >>> jcobs.frame_kind(b"\\x06hello")
     'canonical'
@@ -163,7 +162,7 @@ def frame_kind(frame: ReadableBuffer, *, sentinel: int = 0) -> FrameKind:
 
 
 def max_length(length: int) -> int:
-    """Returns the length of the longest frame of a message of `length` bytes, without a sentinel.
+    """Returns the greatest length that the frame of a message of `length` bytes can have, not counting a sentinel.
 
     >>> jcobs.max_length(254), jcobs.max_length(255)
     (255, 257)
@@ -243,7 +242,7 @@ class Decoder:
         self._too_long = self._too_long or len(data) > room
 
     def _end(self) -> Tuple[int, bytes]:
-        """Ends the piece, and returns the index of the outcome's class and the decoded bytes."""
+        """Ends the piece. Returns the index of the outcome's class in the tuple `classes`, and the decoded bytes."""
         found = 2 if self._too_long else 1 if self._missing else 0, bytes(self._buffer[: self._written])
         self._clear()
         return found

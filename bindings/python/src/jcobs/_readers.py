@@ -24,27 +24,27 @@ if TYPE_CHECKING:
 # The longest wait in seconds that is passed to the system. Every system accepts a wait of this length.
 LONGEST = 2_000_000.0
 IN_USE = "the reader is in use by another call"
-# The longest time in seconds that `discard` takes, if bytes never stop arriving.
+# The longest time in seconds that `discard` reads if bytes never stop arriving.
 LONGEST_DISCARD = 1.0
 
 
 def closing(count: int, sentinel: int) -> bytes:
-    """Returns bytes that end a frame that was cut off. With these bytes, every decoder reports the frame as damaged.
+    """Returns bytes that end a frame that was cut off, so that every decoder reports this frame as damaged.
 
-    A single sentinel isn't enough: a frame that was cut off between two of its blocks is the frame of a shorter
-    message. If k bytes of a block are missing (k is less than `count`), the first k of the returned bytes complete that
-    block. The next byte is a code of 255 with fewer than 254 bytes after it, so the frame is broken.
+    A single sentinel isn't enough: if a frame was cut off between two of its blocks, the blocks that were sent are the
+    frame of a shorter message. If k bytes of a block are missing (k is less than `count`), the first k of the returned
+    bytes complete that block. The next byte is the code 255. Fewer than 254 bytes follow it, so the frame is broken.
 
     At most 254 bytes of a block can be missing, so `count` is at most 255. If `count` is 255, the first returned byte
-    is 1, the code of a block that has only its code. If that byte were 255 and no byte of a block were missing, the 254
-    bytes after it would make a full block.
+    is 1, the code of a block that has only its code. It can't be 255: if no byte of a block were missing, the 255 and
+    the 254 bytes after it would be a full block.
     """
     spoiling = b"\xff" * count if count < 255 else b"\x01" + b"\xff" * 254
     return bytes(byte ^ sentinel for byte in spoiling + b"\0")
 
 
 def reply_of(outcome: Optional[Outcome]) -> bytes:
-    """Returns the message of a reply, or raises an error if there is no reply, or if the reply is broken or too long."""
+    """Returns the message of a reply. Raises an error if there is no reply, or if the reply is broken or too long."""
     if outcome is None:
         raise TimeoutError("no reply came in time")
     if not isinstance(outcome, Message):
@@ -74,14 +74,14 @@ class Frames(Coder):
         self._feed: Callable[[bytes, Any], List[Outcome]] = self._decoder._core.feed
         self._sentinel = operator.index(sentinel)
         self._pending: Deque[Outcome] = deque()
-        self._arrived: Deque[bytes] = deque()  # a chunk that was read and isn't decoded
+        self._arrived: Deque[bytes] = deque()  # a chunk that was read, but isn't decoded yet
         self._headless = False  # whether the next bytes are the rest of a frame whose beginning is lost
         self._lead = bytes([self._sentinel]) if sync else b""  # the bytes to send before the first frame
-        self._cut = 0  # how many bytes to send before a sentinel, to end a frame that was cut; 0 if none was
+        self._cut = 0  # if a frame was cut, how many bytes to send before the sentinel that ends it; otherwise 0
 
     @property
     def unfinished(self) -> bool:
-        """Whether a frame has begun and not ended.
+        """Whether a frame has begun but not ended.
 
         At the end of a file, the value says whether the last frame was cut off.
         """
@@ -96,10 +96,10 @@ class Frames(Coder):
         self._headless = self._headless or begun
 
     def _check_arrived(self) -> None:
-        """Drops an empty chunk or the GAP. One of them may be there if an exception ended a read.
+        """Drops the chunk that has arrived if it is empty or is the GAP.
 
-        The GAP is dropped as the last step. If a signal handler raises an exception before this step, the next call
-        finds the GAP again.
+        Such a chunk may be left if an exception ended a read. The last step drops the GAP: if a signal handler raises
+        an exception before this step, the next call finds the GAP again.
         """
         if self._arrived and (not self._arrived[0] or self._arrived[0] is GAP):
             if self._arrived[0] is GAP:
@@ -107,7 +107,7 @@ class Frames(Coder):
             self._arrived.popleft()
 
     def _without_rest(self, chunk: bytes) -> bytes:
-        """Drops the rest of a frame whose beginning is lost, and reports that frame as `Broken` when its sentinel comes."""
+        """Drops the rest of a frame whose beginning is lost. When the sentinel comes, reports the frame as `Broken`."""
         after = chunk.find(self._sentinel) + 1
         self._arrived[0] = chunk[after:] if after else b""
         if after:
@@ -144,8 +144,8 @@ class Frames(Coder):
         """
         frame = encode(message, sentinel=self._sentinel, terminated=True)
         lead = closing(self._cut, self._sentinel) if self._cut else self._lead
-        # If this frame is cut, fewer bytes of a block are missing than the frame has. If an earlier frame was cut too,
-        # up to 254 may be missing.
+        # If this frame is cut, the number of missing bytes of a block is less than the frame's length. If an earlier
+        # frame was cut too, up to 254 bytes may be missing.
         self._cut = 255 if lead else min(len(frame), 255)
         return lead + frame
 
@@ -162,9 +162,9 @@ class FrameReader(Frames):
     the stream ends or a timeout of the port or socket passes. After a timeout, reading can continue. No byte is lost if
     the read of the file raises an exception.
 
-    A signal handler may raise an exception during a read, as the handler for Ctrl-C does. With the extension, on
-    CPython 3.11 or later, no byte of a socket, a pipe or a file is lost even then. Bytes may be lost in plain Python,
-    on an older CPython, in pyserial, and in the file that a socket's `makefile` returns. If bytes are lost, the reader
+    A signal handler may raise an exception during a read, as the handler for Ctrl-C does. With the extension on CPython
+    3.11 or later, such an exception loses no byte of a socket, a pipe or a file. Bytes may be lost in plain Python, on
+    an older CPython, in pyserial, and in the file that a socket's `makefile` returns. If bytes are lost, the reader
     returns one `Broken` with empty `data` instead of the frames that are damaged by the loss.
 
     If `sync` is true, a sentinel is sent before the first frame. So earlier bytes of another sender, or noise on the
@@ -218,7 +218,10 @@ class FrameReader(Frames):
         self._file.close()
 
     def _take(self, timeout: Optional[float]) -> Optional[bytes]:
-        """Decodes the bytes of one read, and returns them, or b"" at the end of the stream, or None at a timeout."""
+        """Reads once, and decodes the bytes.
+
+        Returns the bytes that were read, b"" at the end of the stream, or None at a timeout.
+        """
         self._check_arrived()
         if not self._arrived and not self._read(self._file, timeout, self._arrived):
             return None
@@ -235,7 +238,7 @@ class FrameReader(Frames):
         With `timeout`, the call doesn't notice bytes that are in the buffer of a buffered file, for example after a
         `readline`. Open such a file with `buffering=0`, or pass these bytes to a `Decoder`. If a socket has a timeout,
         make the reader from the socket itself, not from the file that its `makefile` returns. At a timeout this file
-        raises TimeoutError, and can't be read any more after that.
+        raises TimeoutError, and after that it can't be read any more.
 
         On Windows, `timeout` works only for serial ports and sockets.
 
@@ -247,7 +250,8 @@ class FrameReader(Frames):
         EOFError: the stream ended
         """
         deadline = Deadline(timeout)
-        # This is the code of `alone`. With `alone`, the outcome would be a call's value, which can be lost: see below.
+        # This is the code of `alone`. If `alone` were used, the outcome would be the value that a call returns. Such a
+        # value can be lost: see below.
         calls, mine = self._calls.setdefault("reader", []), sys._getframe()
         try:
             if not begins(calls, mine):
@@ -259,7 +263,7 @@ class FrameReader(Frames):
                     return None
                 if not chunk and not self._pending:
                     raise self._end()
-            # `popleft` isn't used: after a call a signal handler may raise an exception, and then the value is lost
+            # `popleft` isn't used: a signal handler may raise an exception after a call, and the value is then lost
             outcome = self._pending[0]
             del self._pending[0]
             return outcome
@@ -294,7 +298,7 @@ class FrameReader(Frames):
             del mine
 
     def messages(self) -> Iterator[bytes]:
-        """Yields the bytes of each message, and skips broken and too long frames.
+        """Yields the bytes of each message, and skips frames that are broken or too long.
 
         >>> import io
         >>> list(jcobs.FrameReader(io.BytesIO(b"\\x03hi\\x00\\x05a\\x00\\x06hello\\x00")).messages())
@@ -331,10 +335,10 @@ class FrameReader(Frames):
     def write(self, message: ReadableBuffer) -> None:
         """Sends a message as a frame, and the sentinel after the frame.
 
-        If this call raises an exception, or a signal handler does during the call, a part of the frame may have been
-        sent. The next write then first sends bytes that end the cut frame. For the cut frame, the receiver reports at
-        most one `Broken` or `TooLong`. A port may still be sending when this call returns: the port's own `flush` waits
-        until everything is sent.
+        If this call raises an exception, or a signal handler raises one during this call, a part of the frame may have
+        been sent. In this case the next write first sends bytes that end the cut frame. For the cut frame, the receiver
+        reports at most one `Broken` or `TooLong`. A port may still be sending when this call returns: the port's own
+        `flush` waits until everything is sent.
 
         >>> import io
         >>> file = io.BytesIO()
@@ -369,11 +373,11 @@ class FrameReader(Frames):
 def frames(
     source: Union[Readable, Receivable, ReadableBuffer], max_length: int = 65536, sentinel: int = 0
 ) -> FrameReader:
-    """Returns an iterator over the outcomes of the frames in bytes, or in a binary file such as a log.
+    """Returns an iterator over the outcomes of the frames in a bytes-like object, or in a binary file such as a log.
 
     The bytes are read and decoded in chunks of up to 65536 bytes, when the outcomes are needed. The iterator is a
-    `FrameReader`. Its `messages` method skips broken and too long frames. At the end of the iteration, its `unfinished`
-    property says whether the last frame was cut off.
+    `FrameReader`. Its `messages` method skips frames that are broken or too long. At the end of the iteration, its
+    `unfinished` property says whether the last frame was cut off.
 
     >>> for outcome in jcobs.frames(b"\\x03hi\\x00\\x05a\\x00\\x06hello\\x00"):
     ...     print(outcome)

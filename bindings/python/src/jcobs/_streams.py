@@ -1,4 +1,4 @@
-"""Streams of frames, and messages in chunks."""
+"""Streams of frames, and messages that come in chunks."""
 
 from __future__ import annotations
 
@@ -62,7 +62,7 @@ class Decoder(Coder):
     """Decodes a stream of frames that comes in chunks of any size.
 
     `max_length` is the length in bytes of the longest message. The decoder allocates `max_length` bytes when it is
-    created. A broken or too long frame never affects the next frame.
+    created. A frame that is broken or too long never affects the next frame.
 
     A decoder is for one thread at a time: while a call is running, each method raises RuntimeError in other threads and
     in signal handlers.
@@ -91,7 +91,7 @@ class Decoder(Coder):
 
     @property
     def unfinished(self) -> bool:
-        """Whether a frame has begun and not ended.
+        """Whether a frame has begun but not ended.
 
         At the end of a stream, the value says whether the last frame was cut off.
 
