@@ -120,7 +120,7 @@ package_readme() { # BINDING FILE
     what=./$2
     [ -z "$repository" ] || what=jcobs
     sed -i "/--no-index/s,\./bindings/$1,./$2,; s,\./bindings/$1,$what,; s,\[\([^]]*\)\](\.\./[^)]*),\1,g; s,npm install --prefix build ,npm install ," "$tree/bindings/$1/README.md"
-    [ -z "$repository" ] || sed -i 's/^In the repository, in a virtual/In a virtual/; s/, and no package index has the package\././' "$tree/bindings/$1/README.md"
+    [ -z "$repository" ] || sed -i 's/^In the repository, in a virtual/In a virtual/; s/ The package isn.t in a package index such as PyPI\.//' "$tree/bindings/$1/README.md"
 }
 
 # Puts the address of the repository into the metadata of a package: after a line, one that has it.
