@@ -45,8 +45,8 @@ impl UnbufferedDecoder {
         self.missing = code - 1;
     }
 
-    /// Returns how many of the next `len` bytes a span may contain. If the open block is full, the span ends no later
-    /// than this block. If no piece has begun, the function returns 0.
+    /// Returns how many of the next `len` bytes a span may contain. If the code of the open block is 255, the span ends
+    /// no later than this block. If no piece has begun, the function returns 0.
     #[inline(always)]
     pub(crate) fn span_len(&self, len: usize) -> usize
         ensures within { result ≤ len }
