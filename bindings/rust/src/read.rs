@@ -8,8 +8,8 @@ use crate::dec::{DecodeError, PieceEnd, UnbufferedDecoder};
 /// Reads messages from a serial port, a socket, a file, or any other source that implements [`BufRead`].
 ///
 /// If the source implements only [`Read`](io::Read), wrap it in a [`BufReader`](std::io::BufReader). A `BufReader` asks
-/// the source for as many bytes as its capacity, and doesn't wait for more if one read returns fewer. The crate `cobs`
-/// doesn't have this type.
+/// the source for as many bytes as fit into the buffer. If a read returns fewer bytes, the `BufReader` doesn't wait for
+/// more. The crate `cobs` doesn't have this type.
 ///
 /// ```
 /// use std::io::BufReader;
