@@ -92,12 +92,14 @@ export function load(source?: Source): Promise<void>;
  * Loads the module synchronously, for a program that can't wait for a promise. Without an argument, `loadSync` loads the module
  * that comes with this file. Once the module is loaded, a further call changes nothing. On a page, outside of a worker, this call
  * needs Chrome 115 or later.
+ *
  * @throws CobsError "unsupported", or the error that occurred when the source was read
  */
 export function loadSync(source?: Bytes | WebAssembly.Module): void;
 
 /**
  * Returns the length of the longest frame that a message of `length` bytes can have, not counting sentinels.
+ *
  * @throws RangeError if `length` isn't an integer, or is negative
  */
 export function maxEncodedLength(length: number): number;
@@ -107,6 +109,7 @@ export function encode(message: Bytes, options?: EncodeOptions): Uint8Array;
 
 /**
  * Encodes a message to the front of `dest`, and returns the frame's length. The bytes of `dest` after the frame aren't changed.
+ *
  * @throws RangeError if the frame doesn't fit; in this case `dest` isn't changed
  */
 export function encodeInto(message: Bytes, dest: Bytes, options?: EncodeOptions): number;
@@ -114,6 +117,7 @@ export function encodeInto(message: Bytes, dest: Bytes, options?: EncodeOptions)
 /**
  * Returns the message of the first frame. Leading sentinels are skipped, and the frame ends at the next sentinel or at
  * the last byte. The bytes after that sentinel are ignored.
+ *
  * @throws CobsError "empty" or "broken"
  */
 export function decode(frame: Bytes, options?: SentinelOptions): Uint8Array;
@@ -138,6 +142,7 @@ export class FrameDecoder {
    * sentinel of the piece. If `visit` closes the decoder, `push` doesn't call `visit` again. If `visit` throws an error, `push`
    * decodes the rest of the chunk without calling `visit`, and then throws this error. So the next chunk is decoded as if `visit`
    * had thrown nothing.
+   *
    * @throws Error if the decoder is closed, or if `visit` calls `push`
    */
   push(chunk: Bytes, visit: (outcome: Outcome, end: number) => void): void;
@@ -156,6 +161,7 @@ export class FrameEncoder {
   constructor(options?: PieceOptions);
   /**
    * Adds bytes to the message.
+   *
    * @throws RangeError if the message would become longer than `maxLength`; in this case no byte is added
    * @throws Error if the encoder is closed
    */
@@ -164,6 +170,7 @@ export class FrameEncoder {
   get length(): number;
   /**
    * Ends the message and returns its frame, with a sentinel after it if `terminated` is true. The next `push` begins another message.
+   *
    * @throws Error if the encoder is closed
    */
   finish(options?: { terminated?: boolean }): Uint8Array;

@@ -16,6 +16,7 @@ export class FrameDecoderTransform extends Transform {
 /**
  * Turns messages into frames, each with a sentinel after it. The class loads the module itself. If the module can't be loaded, or if the
  * sentinel is invalid, the stream emits `error`.
+ *
  * @throws TypeError for an option other than `sentinel`
  */
 export class FrameEncoderTransform extends Transform {

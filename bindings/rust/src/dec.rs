@@ -184,9 +184,9 @@ pub fn decode_with_sentinel(
     proved::decode_with_sentinel(source, dest, sentinel)
 }
 
-/// Decodes in place the frame at the front of `buff`, which was encoded with the given sentinel. Returns the message's
-/// length in bytes. As in the crate `cobs`, the call first XORs each byte of `buff` with the sentinel, even the bytes
-/// after the frame. Then it decodes `buff` as [`decode_in_place`] does.
+/// Decodes the frame at the front of `buff` in place, and returns the message's length in bytes. The frame was encoded
+/// with the given sentinel. As in the crate `cobs`, the call first XORs each byte of `buff` with the sentinel, even the
+/// bytes after the frame. Then it decodes `buff` as [`decode_in_place`] does.
 ///
 /// ```
 /// let mut buff = [0; 3];

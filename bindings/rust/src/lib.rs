@@ -66,11 +66,11 @@
 //!
 //! | a program has | it calls |
 //! |---|---|
-//! | a message | [`encode`] into a slice, [`try_encode`] if the frame may not fit the slice, [`encode_vec`], [`encode_in_place`] in the message's own buffer; for any sentinel [`encode_with_sentinel`] |
+//! | a message | [`encode`] to write the frame to a slice; [`try_encode`] if the frame may not fit the slice; [`encode_vec`] to make a vector; [`encode_in_place`] to encode in the message's own buffer; [`encode_with_sentinel`] for any sentinel |
 //! | a message in chunks | [`CobsEncoder`]; [`UnbufferedEncoder`], whose buffer is passed to each call; [`EncoderState`], if the program has a container of its own for the frame |
-//! | a frame | [`decode`], [`decode_vec`], [`decode_in_place`]; for any sentinel [`decode_with_sentinel`]; [`frame_kind`] to check the frame |
-//! | bytes from a line, an interrupt, a channel | [`CobsDecoder`] over a slice, [`CobsDecoderHeapless`] with its buffer inside, [`CobsDecoderOwned`]; [`UnbufferedDecoder`], whose buffer is passed to each call |
-//! | a [`Read`](std::io::Read) or [`Write`](std::io::Write) | [`MessageReader`], [`MessageWriter`] |
+//! | a frame | [`decode`], [`decode_vec`] or [`decode_in_place`]; [`decode_with_sentinel`] for any sentinel; [`frame_kind`] to check the frame |
+//! | bytes from a line, an interrupt or a channel | [`CobsDecoder`], whose buffer is a slice; [`CobsDecoderHeapless`], which contains its buffer; [`CobsDecoderOwned`], which allocates its buffer; [`UnbufferedDecoder`], whose buffer is passed to each call |
+//! | a [`Read`](std::io::Read) or a [`Write`](std::io::Write) | [`MessageReader`] or [`MessageWriter`] |
 //! | a stream or a sink of tokio | `MessageCodec`, with the feature `tokio-util` |
 //! | another source, without `std` | [`FrameReader`] over a [`FrameSource`] |
 //! | a recorded stream | [`frames`], [`decode_stream_in_place`], [`decode_stream`] |

@@ -1,4 +1,4 @@
-//! Allocates memory for the calls that return an error if memory runs out, instead of aborting the program.
+//! Allocates memory for the calls that return an error if memory runs out. These calls don't abort the program.
 
 #[cfg(feature = "alloc")]
 use alloc::vec::Vec;

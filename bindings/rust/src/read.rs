@@ -104,8 +104,8 @@ impl<R: BufRead> MessageReader<R> {
     /// # Errors
     ///
     /// - [`ErrorKind::UnexpectedEof`]: the source has ended inside a frame.
-    /// - Each error of the source, such as [`ErrorKind::TimedOut`] and [`ErrorKind::WouldBlock`]. The only exception is
-    ///   [`ErrorKind::Interrupted`]: after this error the source is read again.
+    /// - Every error of the source, such as [`ErrorKind::TimedOut`] and [`ErrorKind::WouldBlock`]. The only exception
+    ///   is [`ErrorKind::Interrupted`]: after this error the source is read again.
     ///
     /// After an error no byte is lost: the next call continues where this call stopped.
     pub fn read_message(&mut self) -> io::Result<Option<Result<&[u8], DecodeError>>> {

@@ -1,5 +1,5 @@
-// Shows a stream: above each byte the byte of the message that corresponds to it, and below it the arcs from code to code. The byte
-// under the mouse or at the cursor is explained, and can be changed, in the message or in the frame.
+// Shows a stream. Above each byte is the byte of the message that corresponds to it, and below the bytes are the arcs from code to
+// code. The byte under the mouse or at the cursor is explained, and can be changed, in the message or in the frame.
 import { CELL, rowPicture } from "../draw.js";
 import { explainFrame, explainMessage } from "./explain.js";
 import { printHex } from "./hex.js";
