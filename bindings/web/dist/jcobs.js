@@ -436,7 +436,10 @@ function encode(message, options) {
   return machine.read(at, length);
 }
 
-/** Encodes a message to the front of `dest`, and returns the frame's length. If the frame doesn't fit, `dest` isn't changed. */
+/**
+ * Encodes a message to the front of `dest`, with a sentinel after the frame if `terminated` is true. Returns how many bytes the call
+ * has written. If these bytes don't fit, `dest` isn't changed.
+ */
 function encodeInto(message, dest, options) {
   const front = bytesOf(dest);
   const { sentinel, terminated } = optionsOf(options, ENCODING);

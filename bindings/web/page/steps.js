@@ -1,5 +1,5 @@
-// Shows the encoder and the decoder step by step in the drawing, with a few lines of code that do the same as the module. The lines explain
-// the format. The other parts of the page encode and decode with the module, and the tests compare the lines with the module.
+// Shows the encoder and the decoder step by step in the drawing, with a few lines of code that make the same steps. The lines explain the
+// format. The other parts of the page encode and decode with the module, and the tests compare the lines with the module.
 import { printHex } from "./hex.js";
 import { byId, count } from "./inputs.js";
 
