@@ -111,7 +111,7 @@ export function encode(message: Bytes, options?: EncodeOptions): Uint8Array;
  * Encodes a message to the front of `dest`, with a sentinel after the frame if `terminated` is true. Returns how many bytes the
  * call has written. The bytes of `dest` after them aren't changed.
  *
- * @throws RangeError if these bytes don't fit; in this case `dest` isn't changed
+ * @throws RangeError if the bytes to write don't fit; in this case `dest` isn't changed
  */
 export function encodeInto(message: Bytes, dest: Bytes, options?: EncodeOptions): number;
 
