@@ -20,7 +20,7 @@ use Rattle.cobs_live.specs.declared.shown.View.{View}
 use Rattle.cobs_live.specs.declared.tally.Tally.{Tally}
 
 -- the state of a run between two reads: the text of each piece that ended in the bytes read so far has been written,
--- and the decoder has consumed all these bytes
+-- and the decoder has consumed all of these bytes that aren't skipped
 pub record HasShownSoFar (settings : Settings) (from to before after : Option (List ℕ)) (watch : Watch) : Type 0 where
   pub ended : HasWritten (shown_lines settings) from to before after
   pub taken : DecoderAfter watch.message.items (phase_of watch.decoder) (unended (open_stream settings ended.gone ended.bytes))

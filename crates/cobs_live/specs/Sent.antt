@@ -59,7 +59,8 @@ lines_of [] = []
 lines_of (byte ∷ bytes) = if byte == 10 then (byte ∷ []) ∷ lines_of bytes else in_front byte (lines_of bytes)
 
 -- The first lines of the reader, `lines`, were read, and `sent` has the bytes that were written for each line. `rest`
--- was read after these lines and not sent: a failed read cut `rest` off, or memory ran out for the frame of `rest`.
+-- was read after these lines and not sent: a failed read cut `rest` off, memory ran out for the frame of `rest`, or
+-- `rest` is empty.
 pub record HasSentLines (settings : Settings) (rest : List ℕ) (from to before after : Option (List ℕ)) : Type 0 where
   pub lines : List (List ℕ)
   pub first : IfSome from (λ bytes. (more : List (List ℕ)) × (lines_of bytes ≡ lines ++ more))

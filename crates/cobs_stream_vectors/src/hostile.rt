@@ -7,7 +7,7 @@ use std::alloc::Global;
 use std::process::Abort;
 use std::test::Fail;
 
-/// A row for each phase of a decoder: the length of the buffer, and the bytes that bring an idle decoder to this phase.
+/// Rows for the phases of a decoder: the length of the buffer, and the bytes that bring an idle decoder to the phase.
 const FRONTS: [(usize, Parts); 10] = [
     // idle, at the start and after a frame
     (4, &[]),

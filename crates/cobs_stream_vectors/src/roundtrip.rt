@@ -48,7 +48,7 @@ fn streams_go_there_and_back(rt: HostRuntime) -> Result<(), Fail> {
     Ok(())
 }
 
-/// A test of a frame of two blocks or more. The frame comes in chunks of `size` bytes (`pieces`), and then a sentinel
+/// A test of the frame of [`LONG_MESSAGE`]. The frame comes in chunks of `size` bytes (`pieces`), and then a sentinel
 /// follows.
 #[derive(Drop)]
 struct Pieces<'a> {

@@ -4,13 +4,13 @@ use std::alloc::{AllocError, Global};
 /// Bytes as a list of parts, one after the other.
 pub type Parts = &'static [&'static [u8]];
 
-/// The bytes of a full block of ones.
+/// The bytes of a full block of ones, without its code.
 pub const ONES: [u8; 254] = [1; 254];
 
 /// Two runs of 1,000 ones with a zero between them.
 pub const LONG_MESSAGE: Parts = &[&[1; 1000], &[0], &[1; 1000]];
 
-/// The frame of [`LONG_MESSAGE`]: each run is three full blocks and a block of 238 bytes.
+/// The frame of [`LONG_MESSAGE`]: each run is three full blocks and a block with the other 238 ones.
 pub const LONG_FRAME: Parts = &[
     &[255],
     &ONES,

@@ -109,7 +109,7 @@ pub fn decode_known_short_in_place(frame: &mut [u8]) -> bool
     decode_short_in_place(frame).is_some()
 }
 
-/// Decodes the bytes before the buffer's first zero, in place and without vectors.
+/// Decodes the bytes before the buffer's first zero, in place and without vector instructions.
 pub fn decode_before_zero(buffer: &mut [u8]) -> Result<usize, DecodeError>
     ensures returned { result ≡ head_result (head buffer.old) }
     ensures buffer { buffer.new ≡ in_place buffer.old }
@@ -426,8 +426,8 @@ pub fn are_same_reports(first: &DecodeReport, second: &DecodeReport) -> bool
     first == second
 }
 
-/// Returns whether two errors are equal. They are equal exactly if they are the same variant with the same number of
-/// bytes.
+/// Returns whether two errors are equal. They are equal exactly if they are the same variant and, if the variant has
+/// the field `decoded_bytes`, have the same value in this field.
 pub fn are_same_errors(first: &DecodeError, second: &DecodeError) -> bool
     ensures { IsTrue result ↔ (first.now ≡ second.now) }
 {

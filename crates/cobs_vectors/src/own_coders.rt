@@ -221,7 +221,8 @@ pub fn kind_by_code(piece: &[u8]) -> FrameKind
     }
 }
 
-/// Decodes a piece from code to code. Returns whether it is whole, and its output without the bytes of a broken block.
+/// Decodes a piece from code to code. Returns whether it is whole, and its kept output: the output without the bytes of
+/// an incomplete last part.
 pub fn decode_by_code(alloc: Global, piece: &[u8]) -> Result<(bool, Vec<u8>), AllocError>
     requires { IsPiece piece.now }
     ensures whole { IfOk result (λ found. found.0 ≡ is_whole piece.now) }

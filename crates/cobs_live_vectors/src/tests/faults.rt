@@ -171,7 +171,7 @@ fn a_line_is_opened_again_after_a_hang_up(rt: HostRuntime) -> Result<(), Fail> {
     Ok(())
 }
 
-/// A frame. Before each of its bytes, the line hangs up or a read fails.
+/// A frame and its zero. Before each of these bytes, the line hangs up or a read fails.
 const CUT: &[u8] = b"\x03ab\x05cdef\x00";
 
 /// The text for a hang-up, by style: first if no frame had begun, and then if a frame had begun. `Raw`, `Bytes` and
