@@ -7,8 +7,8 @@ use std::alloc::Global;
 /// Runs what `call` names, a function or a coder of the library, and returns the result.
 ///
 /// # Errors
-/// `Malformed` if `call` isn't in this list, or if the arguments aren't arguments of that call. `NotCallable` if the
-/// arguments break a precondition. `OutOfMemory` if memory ran out.
+/// `Malformed` if `call` is none of the names in this function, or if the arguments aren't arguments of that call.
+/// `NotCallable` if the arguments break a precondition. `OutOfMemory` if memory ran out.
 pub fn result_of_call(
     alloc: Global,
     call: &str,

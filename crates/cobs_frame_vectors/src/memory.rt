@@ -1,9 +1,9 @@
 //! Tests of each call with too little memory.
 //!
-//! Each call that allocates has its own test, in which memory doesn't run out. `tests/fail-alloc.sh` runs changed copies
-//! of these tests. In each copy, one allocation of each test fails: in the first copy the first allocation, in the
-//! second copy the second, and so on. If the call made this allocation, it must return an error that says so, and the
-//! test ends with the words `out of memory`. Otherwise the call must have its usual result. The script stops at the
+//! Each call that allocates has its own test, in which memory doesn't run out. `tests/fail-alloc.sh` runs changed
+//! copies of these tests. In each copy, one allocation of each test fails: in the first copy the first allocation, in
+//! the second copy the second, and so on. If the call made this allocation, it must return an error that says so, and
+//! the test ends with the words `out of memory`. Otherwise the call must have its usual result. The script stops at the
 //! first copy in which no test ends with these words.
 //!
 //! `rt` is the runtime: an assertion that fails aborts the test through it.

@@ -17,8 +17,8 @@ offset_text offset = padded_integral (format_spec 32 0 4 8 (2 ^ 64 - 1)) false [
 abbrev pub cell : List ℕ → ℕ → List ℕ
 cell row i = if nat_lt i (length row) then encode_lower (slice_index row i ∷ []) ++ codes " " else codes "   "
 
--- the character that is shown for a byte: the byte itself if it is a visible ASCII character or a space, otherwise a dot
--- (46)
+-- the character that is shown for a byte: the byte itself if it is a visible ASCII character or a space, otherwise a
+-- dot (46)
 abbrev pub character : ℕ → ℕ
 character byte = if nat_le 32 byte && nat_le byte 126 then byte else 46
 

@@ -15,7 +15,8 @@ use Rattle.cobs_vectors.proofs.own_coders.frame_len.Goals.{else-byte-eq0, else-r
 ones : (run : ℕ) → HasNoZero (replicate run 1)
 ones run = All-replicate (λ b. b ≢ 0) run 1 (λ e. absurd cc)
 
--- the frame is at least as long as the open block, which has `run` bytes after its code, by the clause `lower` of `law_4`
+-- the frame is at least as long as the open block, which has `run` bytes after its code, by the clause `lower` of
+-- `law_4`
 least : ((m : List ℕ) → length m + 1 ≤ encoded_len m) → (run : ℕ) (rest : List ℕ) → run + 1 ≤ encoded_len (replicate run 1 ++ rest)
 least lower run rest = grind (arith, length-append, length-replicate)
 
