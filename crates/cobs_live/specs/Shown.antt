@@ -85,7 +85,7 @@ in_front Json stamp times = []
 in_front Bytes stamp times = []
 in_front Pcap stamp times = []
 
--- the number of a piece before its line
+-- the number of a piece and a space, before its line, or nothing if pieces are shown without numbers
 abbrev pub numbered : Bool → ℕ → List ℕ
 numbered true number = decimal number ++ codes " "
 numbered false number = []

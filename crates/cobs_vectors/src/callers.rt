@@ -78,7 +78,7 @@ pub fn decode_either_in_place(buffer: &mut [u8]) -> Result<DecodeReport, DecodeE
 }
 
 /// Decodes a piece of 2 to 65 nonzero bytes, which may be broken. Returns true, because [`decode_short`] returns a
-/// result for each such piece.
+/// result for each such piece if `dest` is at most one byte shorter than the piece.
 pub fn decode_known_short(frame: &[u8], dest: &mut [u8]) -> bool
     requires nonzero { HasNoZero frame.now }
     requires few { (2 ≤ length frame.now) × (length frame.now ≤ 65) }
