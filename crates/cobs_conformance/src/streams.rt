@@ -25,8 +25,8 @@ enum Feeding {
     Pieces,
 }
 
-/// The methods of streaming decoders that the cases need and that `FrameDecoder` doesn't have. They have no contracts, so
-/// the functions below take slices with `get` and `unwrap_or`, although each range is within its slice.
+/// The methods of streaming decoders that the cases need and that `FrameDecoder` doesn't have. They have no contracts,
+/// so the functions below take slices with `get` and `unwrap_or`, although each range is within its slice.
 trait Streaming: FrameDecoder {
     /// Pushes bytes, and stops at the first message or error. Returns `None` if there is no message and no error.
     fn push_bytes(&mut self, bytes: &[u8]) -> Result<Option<DecodeReport>, PushError>;

@@ -12,7 +12,7 @@ word n = to_le_bytes w32 (n % 2 ^ 32)
 abbrev pub capture_head : List ℕ
 capture_head = 0xD4 ∷ 0xC3 ∷ 0xB2 ∷ 0xA1 ∷ 2 ∷ 0 ∷ 4 ∷ 0 ∷ 0 ∷ 0 ∷ 0 ∷ 0 ∷ 0 ∷ 0 ∷ 0 ∷ 0 ∷ 0 ∷ 0 ∷ 0 ∷ 1 ∷ 147 ∷ 0 ∷ 0 ∷ 0 ∷ []
 
--- the header of a record, for a time in milliseconds since 1970: this time in seconds and microseconds, and then the
--- record's length twice, as the number of captured bytes and as the number of sent bytes
+-- the header of a record, for a time in milliseconds, which the format counts from 1970: this time in seconds and
+-- microseconds, and then the record's length twice, as the number of captured bytes and as the number of sent bytes
 abbrev pub record_head : ℕ → ℕ → List ℕ
 record_head time len = word (time / 1000) ++ word (time % 1000 * 1000) ++ word len ++ word len

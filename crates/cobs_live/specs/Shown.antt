@@ -46,8 +46,8 @@ text_line color seen = heading color seen ++ (if is_plain seen.bytes then spaced
 abbrev pub dump_lines : (color : Bool) → Seen → List ℕ
 dump_lines color seen = heading color seen ++ codes "\n" ++ dump seen.bytes
 
--- the bytes that are written for a message in a style that shows only messages: the message (`Bytes`), the message and a
--- newline (`Raw`), or a record of a capture (`Pcap`). `styled` doesn't use the other rows.
+-- the bytes that are written for a message in a style that shows only messages: the message (`Bytes`), the message and
+-- a newline (`Raw`), or a record of a capture (`Pcap`). `styled` doesn't use the rows of the other styles.
 abbrev pub alone : Style → ℕ → List ℕ → List ℕ
 alone Hex time bytes = bytes
 alone Text time bytes = bytes
@@ -114,7 +114,7 @@ unfoldable pub shown_from : View → (ℕ → Moment) → ℕ → List Ended →
 shown_from view times index [] = []
 shown_from view times index (piece ∷ pieces) = shown view times index piece ++ shown_from view times (index + 1) pieces
 
--- the text that says that a piece has begun, for each style; the styles that show only messages have no such text
+-- the text that says that a piece has begun, by style; it is empty in the styles that show only messages
 abbrev pub unfinished_in : Style → List ℕ
 unfinished_in Hex = codes "unfinished\n"
 unfinished_in Text = codes "unfinished\n"
@@ -129,7 +129,7 @@ unfinished_in Pcap = []
 abbrev pub shown_end : View → Bool → List ℕ
 shown_end view begun = if begun && view.filter.unfinished then unfinished_in view.style else []
 
--- the text that says that a line hung up, for each style; the styles that show only messages have no such text
+-- the text that says that a line hung up, by style; it is empty in the styles that show only messages
 abbrev pub hung_up_in : Style → List ℕ
 hung_up_in Hex = codes "hung up\n"
 hung_up_in Text = codes "hung up\n"

@@ -45,14 +45,14 @@ time_text Start times = seconds times.next.millis
 time_text Last times = seconds (times.next.millis - times.last.millis)
 time_text Date times = date_time times.next
 
--- the text that begins a line: the time of the piece and a space, or nothing without a stamp
+-- the text that begins a line: the time of the piece and a space, or nothing for `Untimed`
 abbrev pub stamped : Stamp → Times → List ℕ
 stamped Untimed times = []
 stamped Start times = time_text Start times ++ codes " "
 stamped Last times = time_text Last times ++ codes " "
 stamped Date times = time_text Date times ++ codes " "
 
--- the time as a member of a JSON object: a number of seconds, or a string for a date. Without a stamp, there is no such
+-- the time as a member of a JSON object: a number of seconds, or a string for a date. For `Untimed` there is no such
 -- member.
 abbrev pub json_time : Stamp → Times → List ℕ
 json_time Untimed times = []

@@ -37,7 +37,8 @@ struct Written<'a> {
     is_pushed: bool,
 }
 
-/// Passes bytes to the decoder, and ignores the results.
+/// Passes bytes to the decoder, with one push or one by one, and ignores the results. A push may stop before the last
+/// byte.
 fn give<D: StreamingDecoder>(decoder: &mut D, bytes: &[u8], is_pushed: bool) {
     if is_pushed {
         let _ = decoder.push_some(bytes);

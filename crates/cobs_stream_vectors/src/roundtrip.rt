@@ -58,9 +58,9 @@ struct Pieces<'a> {
 }
 
 impl Check for Pieces<'_> {
-    /// Checks that the push of each chunk returns no message, and that the push of the sentinel returns `returned`. If a
-    /// push returns an error, each later push must return an error too. At the end, the buffer must have the bytes of the
-    /// message that fit.
+    /// Checks that the push of each chunk returns no message, and that the push of the sentinel returns `returned`. If
+    /// a push returns an error, each later push must return an error too. At the end, the buffer must have the bytes of
+    /// the message that fit.
     fn check<D: StreamingDecoder + Drop>(
         &self,
         rt: &impl Abort,

@@ -53,8 +53,8 @@ pub fn reads_for(sentinel: u8, piece: &[u8], message: &[u8], buffer: &mut [u8]) 
     }
 }
 
-/// Decodes a short frame with [`decode_short`], and any other frame with [`decode`]. The result is always the result of
-/// [`decode`].
+/// Decodes the source with [`decode_short`] if that call returns a result, and otherwise with [`decode`]. The result is
+/// always the result of [`decode`].
 pub fn decode_either(source: &[u8], dest: &mut [u8]) -> Result<DecodeReport, DecodeError>
     ensures returned { result ≡ result_of_decode source.now (length dest.old) }
     ensures buffer { dest.new ≡ overwritten dest.old (first_output source.now) }
@@ -65,8 +65,8 @@ pub fn decode_either(source: &[u8], dest: &mut [u8]) -> Result<DecodeReport, Dec
     }
 }
 
-/// Decodes a short frame with [`decode_short_in_place`], and any other frame with [`decode_in_place_report`]. The
-/// result is always the result of [`decode_in_place_report`].
+/// Decodes the buffer with [`decode_short_in_place`] if that call returns a result, and otherwise with
+/// [`decode_in_place_report`]. The result is always the result of [`decode_in_place_report`].
 pub fn decode_either_in_place(buffer: &mut [u8]) -> Result<DecodeReport, DecodeError>
     ensures returned { result ≡ in_place_report buffer.old }
     ensures buffer { buffer.new ≡ in_place buffer.old }
@@ -120,7 +120,7 @@ pub fn decode_before_zero(buffer: &mut [u8]) -> Result<usize, DecodeError>
 }
 
 /// Decodes the first piece of the source, and returns the bytes after the piece and its zero. The piece needn't be a
-/// frame.
+/// frame. If the source has no piece, returns no bytes.
 pub fn decode_first<'a>(source: &'a [u8], dest: &mut [u8]) -> &'a [u8]
     ensures rest { (p : List ℕ) → first_piece source.now ≡ Some p
         → result.now ≡ drop (len_through_piece source.now p) source.now }

@@ -109,7 +109,8 @@ pub fn encode_by_byte(message: &[u8], dest: &mut [u8]) -> usize
     let mut index = 0;
     let mut code = 1u8;
     let mut full = false;
-    // Each byte is one of the three steps of `law_16`: a zero closes the open block, a byte joins it, or a byte fills it.
+    // Each byte is one of the three steps of `law_16`: a zero closes the open block, and a nonzero byte joins the block
+    // or fills it.
     'by_byte: for byte in message {
         let next = index + code as usize;
         if *byte == 0 {
