@@ -73,6 +73,7 @@ struct Streamed<'a> {
 fn outcomes_of(alloc: Global, stream: &[u8], room: usize) -> Result<Vec<FrameOutcome>, AllocError> {
     let mut outcomes = Vec::new(alloc);
     let mut rest = stream;
+    // Each iteration passes a zero of the stream, so there are at most as many iterations as bytes.
     for _ in stream {
         let (piece, Some(behind)) = split_at_zero(rest) else {
             break;

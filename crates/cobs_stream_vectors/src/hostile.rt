@@ -89,9 +89,11 @@ impl Check for Resets<'_> {
         let before = decoder.whole_buffer().to_vec(alloc)?;
         if decoder.begin_anew() {
             assert!(rt; decoder.whole_buffer() == before.as_slice());
+            // A zero after the reset ends no piece.
             assert_eq!(rt; feed_all(rt, &mut decoder, &[0]), CallResult::Nothing);
             check_idle(rt, &mut decoder);
 
+            // The reset makes the decoder idle even without a zero after it.
             give(&mut decoder, self.front, false);
             let _ = decoder.begin_anew();
             check_idle(rt, &mut decoder);

@@ -22,6 +22,7 @@ fn ascending_from(alloc: Global, first: u16) -> Result<Vec<u8>, Fail> {
 ///
 /// Test of the original crate: `stream_roundtrip`, for messages of 1 to 1,000 bytes.
 fn check_stream(rt: &impl Abort, alloc: Global, message: &[u8]) -> Result<(), Fail> {
+    // With this bound, the message meets the precondition of `max_encoding_length`.
     assert!(rt; message.len() <= 1000);
     let mut frame = repeated(alloc, 0, max_encoding_length(message.len()))?;
     let len = encode_in_pieces(rt, alloc, message, 17, &mut frame)?;

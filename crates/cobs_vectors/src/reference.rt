@@ -60,6 +60,7 @@ pub fn reading_of(alloc: Global, piece: &[u8]) -> Result<Reading, AllocError> {
     let mut is_whole = false;
     let mut joint = false;
     let mut rest = piece;
+    // Each block has at least one byte, so the list has at most as many blocks as bytes.
     for _ in piece {
         let Some((code, behind)) = rest.split_first() else {
             break;
