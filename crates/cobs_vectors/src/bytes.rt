@@ -44,8 +44,8 @@ pub fn repeated(alloc: Global, byte: u8, count: usize) -> Result<Vec<u8>, AllocE
     vec![in alloc; byte; count]
 }
 
-/// Returns a list of `count` parts. The digits of `number` in the base `parts.len()`, the lowest digit first, choose the
-/// parts. So the numbers below `parts.len()` to the power of `count` stand for all lists of `count` parts, one list
+/// Returns a list of `count` parts. The digits of `number` in the base `parts.len()`, the lowest digit first, choose
+/// the parts. So the numbers below `parts.len()` to the power of `count` stand for all lists of `count` parts, one list
 /// each.
 pub fn chosen(
     alloc: Global,
