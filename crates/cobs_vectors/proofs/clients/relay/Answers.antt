@@ -14,8 +14,8 @@ first (Message message) more = refl
 first (Broken count) more = refl
 first TooLong more = refl
 
--- If the messages `out` of the output, followed by the messages among the remaining outcomes `found`, are `all`, this is
--- still so after the first remaining outcome o is removed, and appended to `out` if it is a message.
+-- If the messages `out` of the output, followed by the messages among the remaining outcomes `found`, are `all`, this
+-- is still so after the first remaining outcome o is removed, and appended to `out` if it is a message.
 relayed : (out out' found more all : List Outcome) (o : Outcome) → out ++ messages_of found ≡ all → found ≡ o ∷ more → out' ≡ out ++ messages_of (o ∷ []) → out' ++ messages_of more ≡ all
 relayed out out' found more all o so_far one reported = grind (arith, append_assoc, first)
 
