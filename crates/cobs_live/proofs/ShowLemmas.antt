@@ -64,7 +64,7 @@ pub ShowsBytes-through : {view : View} {times : ℕ → Moment} {n : ℕ} {p byt
     → ShowsBytes view times n p bytes gone read buffer phase before (append_known a t) tally clock → Appends a b t → ShowsBytes view times n p bytes gone read buffer phase before b tally clock
 ShowsBytes-through {before = before} a b t s q = grind (arith, append_through)
 
--- before the first byte, no piece of these bytes is shown
+-- `ShowsBytes` holds before the first byte: no piece has ended that must be shown
 pub ShowsBytes-start : (law : StreamLaw) (view : View) (times : ℕ → Moment) (p buffer : List ℕ) (phase : Phase) (gone : List Outcome) (read : ℕ) (before : Option (List ℕ)) (tally : Tally) (clock : Times) → DecoderAfter buffer phase p
     → IsTallyOf view.checksum tally gone read → IsReadAt times (length gone) clock → ShowsBytes view times (length buffer) p [] gone read buffer phase before before tally clock
 ShowsBytes-start law view times p buffer phase gone read before tally clock d t r = grind (arith, append-nil, all_ended-none, shown_from-none, Appends-nil)

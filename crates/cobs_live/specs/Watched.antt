@@ -23,7 +23,7 @@ begun false t = t
 begun true [] = []
 begun true (byte ∷ bytes) = if byte == 0 then bytes else begun true bytes
 
--- whether bytes are still skipped after these bytes
+-- whether bytes are still skipped after these bytes; the flag says whether they were skipped before
 abbrev pub skips_on : Bool → List ℕ → Bool
 skips_on false t = false
 skips_on true [] = true
