@@ -250,8 +250,8 @@ module _ (law : StreamLaw) {settings : Settings} {from to before after : Option 
         (Appends-trans before after after' _ _ s.ended.written (subst (λ (w : Settings). Appends after after' (new_text w.view now more)) s.same written));
   }
 
-  -- if no byte follows, and the text that `ShowsEnd` describes was written, the text of the ended input has been
-  -- written; it says whether a piece has begun
+  -- if no byte follows, and the text that `ShowsEnd` describes was written, the text of the ended input (`shown_ended`)
+  -- has been written
   pub shown-ended : {to' after' : Option (List ℕ)} → Consumes to to' [] → ShowsEnd (phase_of watch.decoder) watch.settings.now.view after after' → HasWritten (shown_ended settings) from to' before after'
   shown-ended {to' = to'} {after' = after'} r end =
       -- a piece has begun exactly if the open line has unended bytes
