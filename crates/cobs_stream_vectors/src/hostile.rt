@@ -1,4 +1,4 @@
-//! Tests of decoders after writes to the buffer inside a piece, and after resets inside a piece.
+//! Tests of decoders after writes to the buffer and after resets, between pieces and inside a piece.
 //!
 //! `rt` is the runtime: an assertion that fails aborts the test through it.
 use crate::streaming::{CallResult, Check, StreamingDecoder, check_all, feed_all, overwrite};
