@@ -11,8 +11,8 @@ use crate::answer::{Answer, BROKEN, MORE, TOO_SMALL, done};
 use cobs::laws::law_17;
 use cobs::{PieceEnd, UnbufferedDecoder};
 
-/// Returns the number of decoded bytes of the open piece that are in the buffer. The buffer has `room` bytes. Even if the
-/// decoder's state is corrupt, the number is at most `room`.
+/// Returns the number of decoded bytes of the open piece that are in the buffer. The buffer has `room` bytes. Even if
+/// the decoder's state is corrupt, the number is at most `room`.
 #[inline(always)]
 fn held(decoder: &UnbufferedDecoder, room: usize) -> usize
     ensures { result ≡ held room (phase_of decoder.now) }

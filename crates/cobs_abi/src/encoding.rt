@@ -94,8 +94,8 @@ pub fn finish_terminated(encoder: &mut UnbufferedEncoder, buffer: &mut [u8]) -> 
     }
 }
 
-/// Encodes a message of `message_len` bytes in place, if the buffer has room for the longest frame of a message of this
-/// length.
+/// Encodes a message of `message_len` bytes in place, if the buffer has room for the longest encoded frame of a message
+/// of this length.
 #[inline]
 pub fn encode_within(buffer: &mut [u8], message_len: usize) -> Answer
     ensures encodes { EncodesInPlace message_len buffer.old result buffer.new }

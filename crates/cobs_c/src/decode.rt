@@ -174,7 +174,8 @@ fn decode_long_in_place(buffer: &mut [u8], consumed: &mut usize) -> (u32, usize)
 pub extern "C" fn jcobs_decode_in_place(buffer: &mut [u8]) -> Answer
     ensures decodes { DecodesInPlace buffer.old result buffer.new }
 {
-    // A whole frame of 2 to 65 bytes, with nothing after its zero, is decoded without a search for its end.
+    // If the buffer is a whole frame of 2 to 65 bytes, with or without one zero after it, the frame is decoded without
+    // a search for its end.
     if let Some(report) = decode_short_in_place(buffer) {
         let consumed = with_zero(report.parsed_size(), buffer.len());
         return done(consumed, report.frame_size());

@@ -7,15 +7,15 @@ use cobs::laws::law_4;
 use cobs::{encode, max_encoding_overhead, try_encode, try_encode_with_sentinel};
 use cobs_abi::{Answer, OK, TOO_SMALL, done, encode_within, too_small};
 
-/// The code of a full block. If a message has fewer bytes than this number, its frame is one byte longer than the
-/// message.
+/// The code of a full block. If a message has fewer bytes than this number, its encoded frame is one byte longer than
+/// the message.
 const FULL_CODE: usize = 255;
 
 /// A message of fewer bytes than this number is encoded byte by byte.
 const FEW: usize = 8;
 
-/// Returns the length of the longest frame of a message of `message_len` bytes, or 0 if this length doesn't fit the
-/// type of the result.
+/// Returns the length of the longest encoded frame of a message of `message_len` bytes, or 0 if this length doesn't fit
+/// the type of the result.
 #[unsafe(no_mangle)]
 pub extern "C" fn jcobs_max_length(message_len: usize) -> usize
     ensures fits { max_encoded_len message_len < 2 ^ 64 → result ≡ max_encoded_len message_len }
@@ -132,8 +132,8 @@ pub extern "C" fn jcobs_encode_terminated_with_sentinel(
 }
 
 /// Encodes a message of `message_len` bytes in place. The message begins at index JCOBS_MAX_OVERHEAD(message_len) of
-/// the buffer. The frame is written to the front of the buffer. If the longest frame of a message of this length
-/// doesn't fit the buffer, nothing is written.
+/// the buffer. The frame is written to the front of the buffer. If the longest encoded frame of a message of this
+/// length doesn't fit the buffer, nothing is written.
 #[unsafe(no_mangle)]
 pub extern "C" fn jcobs_encode_in_place(buffer: &mut [u8], message_len: usize) -> Answer
     ensures encodes { EncodesInPlace message_len buffer.old result buffer.new }

@@ -29,7 +29,7 @@ pub extern "C" fn jcobs_encoder_push(
         encoder.new buffer.new }
 {
     law_13(); // The open frame of a streaming encoder
-    // Up to 8 bytes that can't fill the open block are encoded here, without a call.
+    // 1 to 8 bytes that can't fill the open block are encoded here, without a call.
     if encoder.push_few(buffer, bytes) {
         return done(bytes.len(), end_of(encoder));
     }

@@ -15,7 +15,7 @@ use std::test::Fail;
 /// A mode, an input, and the output of the mode for this input.
 type Row = (Mode, &'static [u8], &'static [u8]);
 
-/// The modes, inputs and outputs that most of these tests use.
+/// The modes, inputs and outputs that several of these tests use.
 const ROWS: [Row; 11] = [
     (Mode::Show, b"hello", b"06 68 65 6c 6c 6f 00\n"),
     (Mode::Show, b"", b"01 00\n"),
