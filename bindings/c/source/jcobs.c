@@ -180,7 +180,7 @@ static size_t jcobs_max_overhead(size_t message_len)
     return message_len / JCOBS_FULL_BLOCK_BYTES + (message_len % JCOBS_FULL_BLOCK_BYTES != 0 ? 1 : 0);
 }
 
-/* Returns the length of the longest frame of a message of message_len bytes, or 0 if the frame's length doesn't
+/* Returns the length of the longest encoded frame of a message of message_len bytes, or 0 if this length doesn't
  * fit the type of the result.
  * Proved, by the contract in encode.rt: the result is this length if it is below 2 to the 64th, and 0 otherwise. */
 size_t jcobs_max_length(size_t message_len)
@@ -390,8 +390,8 @@ static size_t jcobs_write_in_place(unsigned char *buffer, size_t buffer_size, si
 }
 
 /* Encodes a message of message_len bytes in place. The message begins at index JCOBS_MAX_OVERHEAD(message_len) of
- * the buffer. The frame is written to the front of the buffer. If the longest frame of a message of this length
- * doesn't fit the buffer, nothing is written.
+ * the buffer. The frame is written to the front of the buffer. If the longest encoded frame of a message of this
+ * length doesn't fit the buffer, nothing is written.
  * Proved, by the contract in encode.rt: if the longest frame fits, the buffer begins with the frame of the
  * message, and the bytes after this frame are as they were. Otherwise the status is TOO_SMALL, and the buffer is
  * as it was. */

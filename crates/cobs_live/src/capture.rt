@@ -6,7 +6,8 @@ ghost use Rattle.cobs_live.specs.Capture.{capture_head, record_head, word};
 use std::io::{self, Write};
 
 /// Writes the header of a capture file: the number that marks the format, the version 2.4, the time zone UTC, the
-/// greatest length of a record (16 MiB), and the type of the records' contents, 147 (`USER0`).
+/// accuracy of the times (always given as 0), the greatest length of a record (16 MiB), and the type of the records'
+/// contents, 147 (`USER0`).
 pub fn write_capture_head<W: Write>(output: &mut W) -> io::Result<()>
     ensures written { OnOk result
         (Appends (W.contents output.old) (W.contents output.new) capture_head) }
