@@ -157,9 +157,9 @@ pub fn law_5()
 /// If each byte of a frame with the sentinel 0 is XORed with a byte `s`, the result is a frame with the sentinel `s`.
 /// The frame with the sentinel `s` doesn't contain `s`, and a second XOR with `s` restores the original frame.
 ///
-/// A receiver finds the end of a frame by searching for the sentinel, so a frame must not contain its sentinel. The
-/// clause `free` states this for a sent frame, and `received` for received bytes that the XOR turns into a frame. If
-/// bytes don't contain `s`, they contain no zero after the XOR (`coded`). An XOR with 0 changes nothing (`zero`).
+/// A receiver finds the end of a frame by searching for the sentinel, so a frame must not contain its sentinel: `free`
+/// states this for a sent frame, and `received` states it for received bytes that the XOR turns into a frame. Bytes
+/// without `s` contain no zero after the XOR (`coded`). An XOR with 0 changes nothing (`zero`).
 ///
 /// ```
 /// fn as_received<'a>(frame: &'a [u8], sentinel: u8) -> &'a [u8]

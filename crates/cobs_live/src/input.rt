@@ -26,7 +26,7 @@ pub enum Came {
 /// itself, and the state after the read. The record of the read includes the contents of the output when the read
 /// began. So a theorem about any input can say which text had been written when each read began.
 pub trait LiveInput<W: Write + Drop> {
-    /// The bytes that the next reads will return, if these bytes are known.
+    /// The bytes that later reads will return, if these bytes are known.
     ghost remaining: { Self → Option (List ℕ) };
 
     /// Whether this read may change the input from the first state to the second.
@@ -46,7 +46,7 @@ pub trait LiveInput<W: Write + Drop> {
 /// An input that is read line by line. Each read takes the output as an extra argument. Contracts describe a
 /// `LiveLines` in the same way as a [`LiveInput`].
 pub trait LiveLines<W: Write + Drop> {
-    /// The bytes that the next reads will return, if these bytes are known.
+    /// The bytes that later reads will return, if these bytes are known.
     ghost remaining: { Self → Option (List ℕ) };
 
     /// Whether this read may change the input from the first state to the second.

@@ -30,8 +30,8 @@ pub fn write_json<W: Write>(
     output.write_all(b"}\n")
 }
 
-/// Writes the kind of a piece, and then the members for its length and its bytes. A piece that is too long has no
-/// member for its length.
+/// Writes the kind of a piece, then a member for its length, and then the members for its bytes. A piece that is too
+/// long has no member for its length.
 fn write_kind<W: Write>(output: &mut W, piece: &Sight<'_>) -> io::Result<()>
     ensures written { OnOk result (Appends (W.contents output.old) (W.contents output.new)
         (json_kind (seen_in piece.now).kind (seen_in piece.now).len (seen_in piece.now).bytes)) }

@@ -85,11 +85,11 @@ fn mark_zeros(dest: &mut [u8], index: usize, next: usize, zeros: u64) -> usize
     index
 }
 
-/// Encodes the first `len` bytes of `source` one by one. The caller ensures that these bytes can't fill the open block.
-/// Each zero is copied like any other byte. A block begins at the copy of the zero, and the code of this block is later
-/// written over the zero. No branch tests whether a byte is a zero, because a processor could mispredict that branch.
-/// Instead, at each byte the function writes a code for the open block, as if this byte were the zero that ends the
-/// block.
+/// Encodes the first `len` bytes of `source` one by one. The caller ensures that these bytes are too few to fill the
+/// open block. Each zero is copied like any other byte. A block begins at the copy of the zero, and the code of this
+/// block is later written over the zero. No branch tests whether a byte is a zero, because a processor could mispredict
+/// that branch. Instead, at each byte the function writes a code for the open block, as if this byte were the zero that
+/// ends the block.
 #[inline(always)]
 pub(crate) fn append_few(
     source: &[u8],
@@ -116,10 +116,10 @@ pub(crate) fn append_few(
     encoder_at(index, next, 0)
 }
 
-/// Encodes all bytes of `source`. These are at most 32 bytes, and they can't fill the open block. The function has few
-/// branches that a processor could mispredict: it calls `mark_first` twice before a branch depends on the number of
-/// zeros. If `test_for_none` is true, a branch first tests whether `source` has a zero. `push` passes true, because
-/// this test makes a push of bytes without zeros faster.
+/// Encodes all bytes of `source`. The caller ensures that there are at most 32 bytes, and too few to fill the open
+/// block. The function has few branches that a processor could mispredict: it calls `mark_first` twice before a branch
+/// depends on the number of zeros. If `test_for_none` is true, a branch first tests whether `source` has a zero. `push`
+/// passes true, because this test makes a push of bytes without zeros faster.
 #[inline(always)]
 #[tactic(auto, using(crate::proofs::encoding::TakingLemmas::next_steps))]
 pub(crate) fn append_short(
