@@ -1,5 +1,5 @@
--- A message of one window is appended to an empty frame (`start-after`). The other two paths are clauses of
--- `encode_long` and `write_each`.
+-- On a target with SIMD vectors, a new encoder takes a message of 1 to 32 bytes (`start-after`), and `close` completes
+-- the frame. For other messages and other targets, the clauses are those of `encode_long` and `write_each`.
 use Rattle.std.proofs.Common.{arith}
 use Rattle.cobs.proofs.format.SentinelLemmas.{encoded_nonzero}
 use Rattle.cobs.proofs.encoding.TakingLemmas.{start-after}

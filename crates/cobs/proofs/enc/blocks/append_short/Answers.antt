@@ -1,6 +1,6 @@
--- The source is one window (`short-copied`). After each call of `mark_first` and `mark_zeros` the mask still describes
--- it. When no zero is left in the mask, the window is taken (`masked-end`), and with it the whole source
--- (`window-front`).
+-- A source of at least 8 bytes is copied as one window (`short-copied`); `append_few` encodes a shorter source. After
+-- each call of `mark_first` and `mark_zeros`, the mask still describes the window. When no zero is left in the mask,
+-- the window is taken (`masked-end`), and so is the whole source (`window-front`).
 use Rattle.std.proofs.Common.{length, refl, arith}
 use Rattle.cobs.specs.OpenBlock.{next_of}
 use Rattle.cobs.specs.Fields.Progress.{reached_by}
@@ -41,7 +41,7 @@ marked : (c : After-mark_zeros-index) → let r = reached_by c.args.encoder in l
     → WindowTaken s c.mark_zeros-index.new.dest 0 (length c.args.source.now) c.mark_zeros-index.result (next_of r)
 marked c w = masked-end (c.mark_zeros-index.ensures _ _ _ (c.mark_first-index.ensures.marks _ _ _ (c.mark_first-first.ensures.marks _ _ _ w))) refl
 
--- the open block isn't full, as `encoder_at` requires
+-- the open block begins before the next byte, and isn't full, as `encoder_at` requires
 pub encoder_at-requires-2 : goal.encoder_at-requires-2
 encoder_at-requires-2 c =
     let at = goal.at.encoder_at-requires-2 c in

@@ -49,7 +49,7 @@ append_byte-requires c =
 pub by_byte-preserved : goal.by_byte-preserved
 by_byte-preserved c =
     let old : List ℕ = c.args.buffer.now in
-    -- the index of the next byte in the buffer, at which it was before the call too
+    -- the message begins at index `before` of the buffer, and its next byte is at index `at`
     let before : ℕ = c.max_encoding_overhead-before.result in
     let at : ℕ = before + c.by_byte.taken in
     let r : Reached = reached_by c.by_byte.encoder in
