@@ -33,7 +33,8 @@ open_len-run source read k code some within nonzero =
 pub open_len-full : (t : List ℕ) → t ≢ [] → open_len 255 t ≡ 255 + open_len 1 t
 open_len-full t more = encoded_len-full (replicate 254 1) t (length-ones 254) (ones-nonzero 254) more
 
--- a zero closes the open block. If `code` is greater than 255, the run before the zero fills other blocks first.
+-- a zero closes the open block. If `code` is 255 or greater, the run before the zero fills one or more blocks first,
+-- and the zero closes the block after them.
 pub open_len-zero : (code : ℕ) (t : List ℕ) → 0 < code → open_len code (0 ∷ t) ≡ code + (code - 1) / 254 + open_len 1 t
 open_len-zero code t some = grind (arith, length-ones, encoded_len-run, ones-nonzero)
 

@@ -23,7 +23,8 @@ not_full-more front (b ∷ bytes) more some = refl
 
 -- the slice has the open frame of m, except the open block's code; the lemmas say which changes keep this property
 module _ {slice m : List ℕ} {index next : ℕ} {full : Bool} (o : Opened slice m index next full) where
-  -- another slice that has the same bytes before the open block, and the same bytes of the open block
+  -- this also holds for another slice that has the same bytes before the open block, and the same bytes in the open
+  -- block after its code
   Opened-in : (slice' : List ℕ) → take index slice' ≡ take index slice → drop (index + 1) (take next slice') ≡ drop (index + 1) (take next slice) → Opened slice' m index next full
   Opened-in slice' front behind = grind arith
 
@@ -192,7 +193,8 @@ module _ {g m : List ℕ} {state : OpenBlock} (o : IsOpenOutput g state m) where
   -- g with the right code is the open frame
   pub completed : IsOpenFrame (set g state.index state.code) m state.index state.code
   completed =
-      -- the code is set in `output-is`, which has another byte in its place; the result is the open frame (`f-is`)
+      -- by `output-is`, g is the open frame with another byte in the place of the code; with the code in this place, it
+      -- is the open frame (`f-is`)
       let is = ap (λ l. set l state.index state.code) (output-is o) ∙ set_at (front o) o.2.0 o.1.bytes state.code state.index (begins o) ∙ sym (f-is o.1) in
       rw is o.1
 

@@ -1,6 +1,7 @@
--- Lemmas on `Reaches`, which says how many bytes of a source the core of the encoder has encoded, and on how it
--- continues: nonzero bytes join the open block (`Reaches-join`), and a zero (`Reaches-zero`) or the 254th byte
--- (`Reaches-full`) closes it. By `OpenedLemmas` for the slice, and by `OpenLenLemmas` for the end of the frame.
+-- Lemmas on `Reaches`, which says how many bytes of a source the core of the encoder has encoded. They say what the
+-- next bytes do: nonzero bytes join the open block (`Reaches-join`), and a zero closes it (`Reaches-zero`). If the open
+-- block has 254 bytes and more bytes follow, its code 255 closes it (`Reaches-full`). The proofs use `OpenedLemmas` for
+-- the slice, and `OpenLenLemmas` for the end of the frame.
 use Rattle.std.proofs.Common.{◌≡◌, ◌≢◌, ℕ, ◌+◌, ◌-◌, ◌<◌, ◌≤◌, Bool, true, false, List, ◌∷◌, ◌++◌, length, drop, take, get_or, replicate, zero, suc, refl, sym, arith, inl, inr, ◌⊎◌, append-nil, append_assoc, length-take-le, length-drop}
 use Rattle.std.proofs.Math.ListN.{set}
 use Rattle.std.proofs.Math.Seq.{take-add}
@@ -27,7 +28,7 @@ module _ {s : Start} {slice : List ℕ} {pos index next : ℕ} {P : Bool → Typ
   pub Reaches-weaker : {Q : Bool → Type 0} → ((full : Bool) → P full → Q full) → Reaches s slice pos index next Q
   Reaches-weaker weaker = grind arith
 
-  -- if the open block has no bytes, the byte in its code's place doesn't matter
+  -- if the open block has no bytes, the bytes from its code's place up to the end of the whole frame don't matter
   pub Reaches-same-empty : (slice' : List ℕ) → next ≡ index + 1 → take index slice' ≡ take index slice
       → drop (whole_end s) slice' ≡ drop (whole_end s) s.slice → Reaches s slice' pos index next P
   Reaches-same-empty slice' empty front back = grind (arith, Opened-same-empty)

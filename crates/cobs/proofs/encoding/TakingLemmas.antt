@@ -23,7 +23,7 @@ after-some r bytes h = grind arith
 -- the rule set for the tactics of `try_append`
 pub ruleset short_room = (after-some, open_len-most, cases_Bool)
 
--- the frame has room for at least the bytes of the source
+-- each byte of the source needs at least one byte of the frame
 pub next-least : (r : Reached) (source : List ℕ) → 0 < r.block.code → 0 < length source → next_of r + length source ≤ end_after r source
 next-least r source code some = grind (arith, open_len-least)
 
@@ -141,7 +141,7 @@ module _ (slice : List ℕ) (r : Reached) (is : r ≡ place_at 0 1 false) (some 
   pub start-taken : CobsEncoderAfter slice r []
   start-taken = rw is (after-nothing slice some)
 
-  -- such an encoder has taken its whole source
+  -- the encoder has then taken the whole source
   module _ {slice' source : List ℕ} {r' : Reached} (t : TakesFront slice r source (length source) slice' r') where
     -- the encoder's message is the source
     pub start-after : CobsEncoderAfter slice' r' source
@@ -151,7 +151,7 @@ module _ (slice : List ℕ) (r : Reached) (is : r ≡ place_at 0 1 false) (some 
     pub start-len : end_of r' ≡ encoded_len source
     start-len = all-end t ∙ start-fits source
 
--- the rule set for the tactics of the functions that take a source in steps, such as `append`
+-- the rule set for the tactics of the functions that take a source in steps, such as `append_rest`
 pub ruleset next_steps = (next-least, left-end, front-next, take_rest)
 
 -- the rule set for the tactics of the functions that begin with a new encoder, such as `encode_long`

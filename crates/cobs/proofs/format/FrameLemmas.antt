@@ -141,7 +141,7 @@ module _ (f m : List ℕ) (r : Reads f m) where
   pub frame_nonzero : HasNoZero f
   frame_nonzero = grind (arith, concat_nonzero)
 
-  -- the last part of a frame is whole
+  -- a frame is whole: no byte of its last part is missing
   pub frame_whole : IsWhole f
   unfolding last_part is_whole
   frame_whole = grind (arith, frame_some, parts-frame, missing-last)

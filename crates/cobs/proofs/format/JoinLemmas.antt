@@ -1,7 +1,7 @@
 -- Two frames end to end are a frame (`Reads-append`). A front of a frame is a frame exactly if it ends at the end of a
--- block (`front_frame`), and its message is then a front of the frame's message (`front_message`). All three hold
--- because the parts of a list are the blocks of its only frame (`parts-frame`), and the message of two lists of blocks
--- is known (`message_of-append`).
+-- block (`front_frame`), and its message is then a front of the frame's message (`front_message`). The proofs use that
+-- the parts of a frame are its blocks (`parts-frame`), and that the message of two lists of blocks is known
+-- (`message_of-append`).
 use Rattle.std.proofs.Common.{◌≡◌, ◌≢◌, ℕ, ◌↔◌, List, [], ◌∷◌, ◌++◌, refl, ap, ◌∙◌, length, arith, append-nil, length-append, append_assoc}
 use Rattle.std.proofs.lemmas.List.{nil_from_length}
 use Rattle.std.proofs.lemmas.List.Folds.{concat-append}

@@ -166,7 +166,7 @@ unended-at_sentinel t (inl none) = ap unended none ∙ unended-no_zero [] (All-n
 unended-at_sentinel t (inr (front, ends)) = ap unended ends ∙ unended-zero front
 
 -- The stream a is empty or ends in a sentinel, and a sentinel follows the bytes d. Then the outcomes of the whole
--- stream are those of a, those of d, and those of the bytes z after that sentinel.
+-- stream are those of a, those of d and the sentinel after d, and those of the bytes z after this sentinel.
 pub stream_outcomes-apart : (a d z : List ℕ) (n : ℕ) → IsAtSentinel a → stream_outcomes (a ++ d ++ 0 ∷ z) n ≡ stream_outcomes a n ++ stream_outcomes (d ++ 0 ∷ []) n ++ stream_outcomes z n
 stream_outcomes-apart a d z n h =
     grind (arith, append_assoc, unended-at_sentinel, unended-zero, stream_outcomes-append, stream_outcomes-append (a ++ d ++ 0 ∷ []) z n)

@@ -34,8 +34,9 @@ len-block : (block m : List ℕ) → IsBlock block → (is_full block ≡ true �
 len-block [] m is some = absurd is
 len-block (code ∷ bytes) m is some = grind (arith, append_assoc, encoded_len-full, encoded_len-zero)
 
--- The length of the encoded frame is the length of the blocks before the last one, plus the length of the frame of the
--- last block's bytes. The exception: the last block is empty and follows a full block.
+-- The length of the encoded frame of the message that some blocks stand for: the length of the blocks before the last
+-- one, plus the length of the encoded frame of the last block's bytes. If the block before the last one is full, the
+-- last block must have at least one byte after its code.
 pub len-blocks : (front : List (List ℕ)) (code : ℕ) (bytes : List ℕ) → All IsBlock front → (is_full (last_of front) ≡ true → bytes ≢ [])
     → encoded_len (message_of (front ++ (code ∷ bytes) ∷ [])) ≡ length (concat front) + encoded_len bytes
 len-blocks [] code bytes each some = omega arith

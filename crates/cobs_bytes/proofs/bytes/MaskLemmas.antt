@@ -21,7 +21,7 @@ use Rattle.cobs_bytes.specs.Bytes.{HasNoZero}
 use Rattle.cobs_bytes.specs.Mask.{lowest, zero_mask}
 use Rattle.cobs_bytes.proofs.bytes.ListLemmas.{length-ones}
 
--- std's mask `mask_l` of the results of a test, if the test of a byte is whether the byte is 0, is `zero_mask`
+-- if a test says of each byte whether it is 0, std's mask `mask_l` of the results of the test is `zero_mask`
 pub zero_mask-lanes : (bytes : List ℕ) → mask_l (map (λ b. eqb b 0) bytes) ≡ zero_mask bytes
 zero_mask-lanes [] = refl
 zero_mask-lanes (b ∷ bytes) = grind (arith, zero_mask-lanes bytes)
