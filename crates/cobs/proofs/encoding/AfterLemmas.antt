@@ -23,7 +23,7 @@ pub frame-is : {f m o : List ℕ} {index code : ℕ} (e : IsEncodedFrame f m) (r
     → let full = ends_in_full r.front r.bytes in (is_full (last_of e.reads.blocks) ≡ full) × (f ≡ closed_frame r full)
 frame-is {f} {m} e r =
     let full : Bool = ends_in_full r.front r.bytes in
-    -- `same`: m has only one encoded frame, so f is the closed open frame
+    -- `same`: m has only one encoded frame, so f is `closed_frame`
     let same = one_encoded f _ m e (encoded-of r full refl) in
     -- `parse`: f can be cut into blocks in only one way, so its last block is the last of `closed_blocks`
     let parse = one_frame f e.reads.blocks (closed_blocks r full) e.reads.frame (rw same (closed_frame-is_frame r full refl)) in

@@ -36,8 +36,8 @@ module _ {source slice : List ℕ} {r : Reached} {next : ℕ} (place : IsPlaceIn
   -- a zero closes the open block
   pub byte-zero : {r' : Reached} {code : ℕ} → get_or source 0 0 ≡ 0 → code ≡ r.block.code → r' ≡ place_at next 1 false → TakesFront slice r source 1 (set slice r.block.index code) r'
   byte-zero {code = code} zero coded is =
-      -- `Reaches-zero` writes the code `next - r.block.index`, which is `code` (`code-is`); `front-open` states the
-      -- whole step
+      -- `Reaches-zero` writes the code `next - r.block.index`, which is `code` (`code-is`), and the slice keeps its
+      -- length (`long`); `front-open` states the whole step
       let closed = Reaches-zero start {Q = IsNotFull} fits some zero (omega arith) refl in
       let code-is : next - r.block.index ≡ code = omega arith in
       let long = length-set slice r.block.index code in

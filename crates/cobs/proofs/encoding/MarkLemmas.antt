@@ -33,7 +33,7 @@ pub record Copied (s : Start) (slice : List ℕ) (read len index next : ℕ) : T
 pub copied-by : {s : Start} {slice after : List ℕ} {read len index next : ℕ} {P : Bool → Type 0} → Reaches s slice read index next P → read + len ≤ length s.source → whole_end s ≤ length slice
     → after ≡ take next slice ++ (take len (drop read s.source) ++ drop (next + len) slice) → Copied s after read len index next
 copied-by {s} {slice} {after} {read} {len} before inside fits is =
-    -- `r` is `before` without its property P; `row` says that the copied part has `len` bytes
+    -- `r` is `before` without its property P; `room` bounds `next`; `row` says that the copied part has `len` bytes
     let r = Reaches-weaker before {Q = λ _. Unit {0}} (λ full p. tt) in
     let room = least r in
     let row = length-chunk read len s.source inside in
@@ -79,6 +79,7 @@ module _ {s : Start} {slice : List ℕ} {read len index next zeros : ℕ} (w : C
       -- the number of bytes that fill the open block; by `nonzero`, none of them is a zero
       let until_full : ℕ = index + 255 - next in
       let sum : next + until_full ≡ index + 255 = omega arith in
+      -- the window has `len` bytes, which the tactics below need
       let long = length-chunk read len s.source w.copied.inside in
       -- `near`: `zeros` is the mask of the window, so the premise `none` says that the window's first zero comes after
       -- these bytes, and `clear_front` says that none of them is a zero
@@ -142,7 +143,8 @@ module _ {s : Start} {slice : List ℕ} {read len index next zeros d : ℕ} (m :
     -- the next code
     pub masked-step : IsMasked s read len next (without_lowest zeros) (next + lowest zeros) (set slice index (next + lowest zeros - index))
     masked-step =
-        -- k is the index of the zero in the window, and j its index among the bytes that are left
+        -- k is the index of the zero in the window, and j its index among the bytes that are left; k is d + j (`e`),
+        -- and the zero is within the window (`lt`)
         let k : ℕ = lowest zeros in
         let j : ℕ = nonzero_len left in
         let e = first-is in
@@ -224,6 +226,7 @@ pub row-taken : {s : Start} {slice after : List ℕ} {read index next : ℕ} {P 
     → WindowTaken s after read n (next + n - 1) next
 row-taken {s} {slice} {after} {read} {index} {next} r short fits n some inside zeros is =
     let room = least r in
+    -- m zeros come after the first zero
     let m : ℕ = n - 1 in
     let sum : suc m ≡ n = omega arith in
     let coded : List ℕ = set slice index (next - index) in

@@ -19,6 +19,7 @@ same_start a b t na nb e = grind (arith, stretches-front, length-append)
 -- nonzero bytes join the open block
 pub open_len-join : (code : ℕ) (more t : List ℕ) → 0 < code → HasNoZero more → open_len code (more ++ t) ≡ open_len (code + length more) t
 open_len-join code more t some nonzero =
+    -- `front` has the ones that stand for the open block's bytes; `both`: these ones and the bytes `more` have no zero
     let front : List ℕ = replicate (code - 1) 1 in
     let both = All-append (λ byte. byte ≢ 0) front more (ones-nonzero (code - 1)) nonzero in
     grind (arith, append_assoc, same_start, ones-nonzero, length-append, length-ones)
@@ -56,6 +57,7 @@ pub Opened-len : {slice m : List ℕ} {index next : ℕ} {full : Bool} (t : List
     → encoded_len (m ++ t) ≡ index + open_len (next - index) t
 Opened-len t more o =
     let code : ℕ = length o.bytes + 1 in
+    -- `longer`: m followed by t is the message of the same blocks after t is appended to the last block
     let longer = message_of-more o.front code code o.bytes t in
     grind (arith, length-ones, len-blocks o.front code (o.bytes ++ t) o.each, same_start, ones-nonzero)
 

@@ -83,6 +83,7 @@ module _ {s : Start} {slice : List ℕ} {pos index next : ℕ} {P : Bool → Typ
         let least' = least in
         -- `left`: the bytes that are left begin with the zero
         let left : drop pos s.source ≡ 0 ∷ drop (pos + 1) s.source = grind (arith, drop_more) in
+        -- the zero closes the open block, so the rest of the frame is counted from the next block on
         let zero_len = open_len-zero (next - index) (drop (pos + 1) s.source) (omega arith) in
         record {
           ordered = omega arith;

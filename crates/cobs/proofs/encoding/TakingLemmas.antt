@@ -43,6 +43,7 @@ module _ {s : Start} {slice : List ℕ} {read index next : ℕ} {P : Bool → Ty
   pub joined : get_or s.source read 0 ≡ byte → byte ≢ 0 → next < index + 255 → whole_end s ≤ length slice → Reaches s (set slice next byte) (read + 1) index (next + 1) IsNotFull
   joined is other short fits =
       let room = least r in
+      -- the slice keeps its length, which the tactics below need
       let long = length-set slice next byte in
       -- `one` and `here`: the next byte of the source is this byte, and is now in the slice
       let one : take 1 (drop read s.source) ≡ byte ∷ [] = grind (arith, drop_more) in

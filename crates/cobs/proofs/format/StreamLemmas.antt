@@ -1,4 +1,4 @@
--- The ended pieces, the outcomes and the unended bytes of a stream that consists of two parts (`ended_pieces-append`,
+-- The ended pieces, the outcomes and the unended bytes of a stream that is cut in two (`ended_pieces-append`,
 -- `stream_outcomes-append`, `unended-append`), or that is longer by one byte (`stream_outcomes-push`, `unended-push`).
 -- All of them follow from the stretches of the stream (`stretches-append`), by std's lemmas on `slice_split`. `law_9`
 -- and `law_10` state these facts.
@@ -20,13 +20,13 @@ use Rattle.cobs.proofs.format.FrameLemmas.{last_of-append}
 pub fed-nonzero : (p : List ℕ) (b : ℕ) → b ≢ 0 → fed p b ≡ p ++ b ∷ []
 fed-nonzero p b h = grind arith
 
--- STRETCHES OF A STREAM IN TWO PARTS
+-- STRETCHES OF A STREAM THAT IS CUT IN TWO
 
 -- a stream has a stretch
 pub length-stretches : (t : List ℕ) → 0 < length (stretches t)
 length-stretches t = grind (arith, length-slice_split)
 
--- the stretches of a stream in two parts t and u: the last stretch of t continues in u
+-- the stretches of a stream that is cut into t and u: the last stretch of t continues in u
 pub stretches-append : (t u : List ℕ) → stretches (t ++ u) ≡ but_last (stretches t) ++ stretches (last_of (stretches t) ++ u)
 unfolding but_last
 stretches-append [] u = refl
@@ -39,17 +39,17 @@ unfolding but_last
 but_last-append [] ys h = refl
 but_last-append (x ∷ xs) ys h = grind (arith, but_last-append xs ys h, length-append xs ys)
 
--- the ended pieces of a stream in two parts: those of t, then those of u after the unended bytes of t
+-- the ended pieces of a stream that is cut into t and u: those of t, then those of u after the unended bytes of t
 pub ended_pieces-append : (t u : List ℕ) → ended_pieces (t ++ u) ≡ ended_pieces t ++ ended_pieces (unended t ++ u)
 unfolding ended_pieces unended
 ended_pieces-append t u = grind (arith, stretches-append, but_last-append, length-stretches, filter-append)
 
--- the unended bytes of a stream in two parts are those of u after the unended bytes of t
+-- the unended bytes of a stream that is cut into t and u are those of u after the unended bytes of t
 pub unended-append : (t u : List ℕ) → unended (t ++ u) ≡ unended (unended t ++ u)
 unfolding unended
 unended-append t u = grind (arith, stretches-append, last_of-append, length-stretches)
 
--- a stream cut in two: the outcomes of the first part, then those of the second after the unended bytes of the first
+-- the outcomes of a stream that is cut into t and u: those of t, then those of u after the unended bytes of t
 pub stream_outcomes-append : (t u : List ℕ) (n : ℕ) → stream_outcomes (t ++ u) n ≡ stream_outcomes t n ++ stream_outcomes (unended t ++ u) n
 unfolding stream_outcomes
 stream_outcomes-append t u n = grind (arith, ended_pieces-append, map-append)

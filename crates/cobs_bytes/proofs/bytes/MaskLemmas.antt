@@ -147,15 +147,15 @@ mask-and (b ∷ bytes) some =
       -- the first byte is the first zero
       | inl is ↦ (let here = set_if b is in
           let none : nonzero_len (b ∷ bytes) ≡ 0 = ap (λ t. cond (not t) (1 + nonzero_len bytes) 0) (eq-eqb b 0 is) in
-          -- the mask is odd, so it loses its bit 0 (`less-odd`); the first zero has index 0 (`none`)
+          -- the mask is odd (`here`), so it loses its bit 0 (`less-odd`); the first zero has index 0 (`none`)
           less-odd (zero_mask (b ∷ bytes)) (zero_mask bytes) (omega arith) ∙ ap (λ k. mask_behind (k + 1) (drop (k + 1) (b ∷ bytes))) (sym none))
       -- the first byte isn't 0, so the first zero is among the other bytes; `more` says that its index is one higher in
       -- `b ∷ bytes`
       | inr other ↦ (let here = clear_if b other in
           let more : suc (nonzero_len bytes + 1) ≡ nonzero_len (b ∷ bytes) + 1 = omega (arith, ap (λ t. cond (not t) (1 + nonzero_len bytes) 0) (ne_eqb b 0 other)) in
           let rest : zero_mask bytes ≢ 0 = λ e. some (omega arith) in
-          -- the mask is twice the mask of the other bytes, which loses its lowest bit by induction; `mask_behind-more`
-          -- counts one nonzero byte more before the bytes that are left
+          -- the mask is twice the mask of the other bytes (`here`), which loses its lowest bit by induction;
+          -- `mask_behind-more` counts one nonzero byte more before the bytes that are left
           less-even (zero_mask (b ∷ bytes)) (zero_mask bytes) rest (omega arith) ∙ ap (λ m. 2 * m) (mask-and bytes rest)
           ∙ sym (mask_behind-more (nonzero_len bytes + 1) (drop (nonzero_len bytes + 1) bytes)) ∙ ap (λ k. mask_behind k (drop k (b ∷ bytes))) more)
     ]

@@ -6,7 +6,7 @@ use Rattle.cobs.proofs.encoding.TakingLemmas.{start-after}
 use Rattle.cobs.proofs.enc.encode.Goals as goal
 use Rattle.std.proofs.lemmas.Grind.{common_steps}
 
--- the frame of a message of one window
+-- the frame of a message that fits one window
 pub returns-then-source-le-WINDOW-clause-frame : goal.returns-then-source-le-WINDOW-clause-frame
 -- the encoder has taken the source, so `close` makes its frame
 returns-then-source-le-WINDOW-clause-frame c = c.close.ensures.frame c.args.source.now (start-after c.args.dest.now _ c.new.ensures.start (omega arith) c.append_short-encoder.ensures)

@@ -1,5 +1,5 @@
--- The first piece and the last piece of a stream. The fields are lemmas on the bytes before a zero (`HeadLemmas`,
--- `OutcomeLemmas`), and lemmas on the last piece (`LastPiece`).
+-- The first piece and the last piece of a stream. The fields are lemmas on the bytes before the first zero
+-- (`HeadLemmas`, `OutcomeLemmas`), and lemmas on the last piece (`LastPiece`).
 use Rattle.cobs.proofs.decoding.HeadLemmas.{first_piece_behind, first_piece_none, first_piece_some, front_is_head}
 use Rattle.cobs.proofs.decoding.OutcomeLemmas.{first_piece_head, head_reads}
 use Rattle.cobs.proofs.decoding.SourceSteps.{xor_head}
