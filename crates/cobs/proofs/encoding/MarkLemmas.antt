@@ -52,7 +52,7 @@ copied-joins {s} {slice} {read} {len} {index} {next} c k some le short nonzero =
     let here = sym (take-take k len (drop next slice) le) ∙ ap (take k) c.here ∙ take-take k len (drop read s.source) le in
     Reaches-join c.reaches c.room k (omega arith) short nonzero here (grind arith) (λ z. refl)
 
--- the copied bytes are a window, whose bits say which of them are zeros
+-- the copied bytes are a window with the mask `zeros` (`bits`), and the open block has room for a byte (`short`)
 pub record CopiedWindow (s : Start) (slice : List ℕ) (read len index next zeros : ℕ) : Type 0 where
   pub some : 0 < len
   pub few : len ≤ 32

@@ -207,7 +207,7 @@ module _ {g m : List ℕ} {state : OpenBlock} (o : IsOpenOutput g state m) where
       -- the code closes the open block (`closed`), whose joint is the zero (`zero`), as its code isn't 255
       let closed = Opened-close (output-opened o) state.code (omega arith) refl in
       let zero : joint (state.code ∷ []) ≡ 0 ∷ [] = grind arith in
-      -- `out`: this also holds with x in the place of the next code, since the new open block has no bytes
+      -- `out`: `closed` also holds with x in the place of the next code, since the new open block has no bytes
       let out = Opened-same-empty closed _ refl (take-append-le _ _ _ (omega arith)) in
       rw zero at (opened-output out 1 refl (omega arith) (length_push _ x ∙ omega arith))
 
@@ -234,8 +234,8 @@ module _ {g m : List ℕ} {state : OpenBlock} (o : IsOpenOutput g state m) where
         let sum : next o + 1 ≡ state.index + 255 = omega arith in
         -- the code 255 closes the open block, which has the byte already (`joins`)
         let closed = Opened-close joins 255 (omega arith) (sym sum) in
-        -- `out`: this also holds for the list with x, whose bytes before x are the same; `coded` says that the code can
-        -- be set before or after the byte is appended
+        -- `out`: `closed` also holds for the list with x, whose bytes before x are the same; `coded` says that the code
+        -- can be set before or after the byte is appended
         let out = Opened-same-empty closed _ refl (
         let coded = set-append_left g _ state.index 255 (index-IsOpenOutput o) in
         let long' = length-set g state.index 255 in

@@ -122,7 +122,8 @@ pub alike-first : (n pos b : ℕ) (xs : List ℕ) → pos + suc n ≤ length xs 
     → (get_or xs pos 0 ≡ b) × (take n (drop (pos + 1) xs) ≡ replicate n b)
 alike-first n pos b xs within alike = let left = drop_more xs pos 0 (omega arith) in (cc, cc)
 
--- after a zero, n more zeros close n blocks without bytes, whose codes 1 are already in place
+-- The open block has no bytes, so n zeros close n blocks without bytes, the first of which is the open block. The codes
+-- 1 of these blocks, and the code 1 of the block that is then open, are already in place.
 pub Reaches-ones : (n : ℕ) {s : Start} {slice : List ℕ} {pos index : ℕ} → Reaches s slice pos index (index + 1) IsNotFull → pos + n ≤ length s.source → whole_end s ≤ length slice
     → take n (drop pos s.source) ≡ replicate n 0 → take (suc n) (drop index slice) ≡ replicate (suc n) 1 → Reaches s slice (pos + n) (index + n) (index + n + 1) IsNotFull
 Reaches-ones zero r within fits zeros ones = grind arith

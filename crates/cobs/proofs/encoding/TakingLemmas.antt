@@ -63,7 +63,7 @@ module _ {source old slice : List ℕ} {r r' : Reached} (fits : end_after r sour
       let place : Reached = place_at index code full in
       -- `end`: the end of the frame is the same, counted from the new progress, whether bytes are left or not
       let end : end_after place (drop pos source) ≡ end_after r source = elim (cases_lt pos (length source)) [
-        -- if bytes are left, `open_len` counts the end in both
+        -- if bytes are left, both ends are counted with `open_len` (`after-some`)
         | inl more ↦ grind (arith, after-some, length-drop)
         -- if none is left, the frame ends with the open block (`ends`), since it doesn't end in a full block (`last`)
         | inr none ↦ (let all : pos ≡ length source = omega arith in rw (drop_all pos source (omega arith), last all, ends s all) (omega arith))

@@ -52,8 +52,8 @@ ends_in_full g m e =
 
 -- an encoder that has taken m can take one more byte b; its open block is then `next_open state b`
 pub EncoderAfter-push : (state : OpenBlock) (m : List ℕ) (b : ℕ) → EncoderAfter state m → EncoderAfter (next_open state b) (m ++ b ∷ [])
--- an open frame with 0 in the place of its code is the output of a caller, so `open-zero` gives the next output, whose
--- open frame is the result; `open-full` and `open-more` below do the same for other bytes
+-- an open frame with 0 in the place of the open block's code is the output of a caller, so `open-zero` gives the next
+-- output, whose open frame is the result; `open-full` and `open-more` below do the same for other bytes
 EncoderAfter-push state m zero (f, o) = let r = open-zero (f, o, (0, refl)) 0 in (r.0, r.1)
 EncoderAfter-push state m (suc b) (f, o) = ⊎_elim
     (λ (full : state.code ≡ 254). grind (arith, open-full (f, o, (0, refl)) (suc b) (λ e. omega arith) 0 full))

@@ -150,7 +150,7 @@ module _ (block f : List ℕ) (is : IsBlock block) where
   pub front-canonical : f ≢ [] → IsCanonical (block ++ f) ↔ (IsCanonical f × (IsFull block → f ≢ lone_block))
   front-canonical some = (
     λ c. (
-      -- if the block and f are a canonical frame, f is one, because its blocks end in the same way
+      -- if the block and f are a canonical frame, f is a canonical frame, because the blocks of f end in the same way
       record {
         blocks = parts f;
         frame = rest-frame some c.blocks c.frame;

@@ -1,6 +1,6 @@
--- The length of an encoded frame (`encoded_len`), counted from the runs of its message, for which the message is cut at
--- its zeros. A run and the zero after it need one code, and one more code for each 254 bytes of the run
--- (`encoded_len-run`). The main lemma is the bound, `encoded_len-le`; messages without zeros reach it
+-- The length of an encoded frame (`encoded_len`), counted from the runs of its message. The message is cut at its zeros
+-- to find its runs. A run and the zero after it need one code, and one more code for each 254 bytes of the run
+-- (`encoded_len-run`). The main lemma is the bound, `encoded_len-le`; messages without zeros reach this bound
 -- (`encoded_len-nonzero`).
 use Rattle.std.proofs.Common.{◌≡◌, ◌≢◌, ℕ, ◌+◌, ◌/◌, ◌<◌, ◌≤◌, ◌==◌, false, List, [], ◌∷◌, ◌++◌, length, map, All, refl, ap, ◌∙◌, subst, arith, length-append}
 use Rattle.std.specs.List.{join_with_byte}

@@ -85,12 +85,12 @@ abbrev pub outcomes_at : List ℕ → ℕ → ℕ → List Outcome
 outcomes_at [] b n = []
 outcomes_at (c ∷ p) b n = cond (eqb b 0) (outcome_of (c ∷ p) n ∷ []) []
 
--- a piece and the zero after it are one ended piece
+-- a stream that consists of a piece and a zero has one ended piece, which is this piece
 pub ended_pieces-piece : (p : List ℕ) → p ≢ [] → HasNoZero p → ended_pieces (p ++ 0 ∷ []) ≡ p ∷ []
 unfolding ended_pieces but_last
 ended_pieces-piece p some h = grind (arith, stretches-piece)
 
--- the front p of a piece and a zero have the outcome of p, or no outcome if p is empty
+-- a stream that consists of the front p of a piece and a zero has the outcome of p, or no outcome if p is empty
 pub stream_outcomes-piece : (p : List ℕ) (n : ℕ) → HasNoZero p → stream_outcomes (p ++ 0 ∷ []) n ≡ outcomes_at p 0 n
 unfolding stream_outcomes ended_pieces but_last
 stream_outcomes-piece p n h = grind (arith, stretches-piece)
@@ -99,13 +99,13 @@ stream_outcomes-piece p n h = grind (arith, stretches-piece)
 pub outcomes_at-nonzero : (p : List ℕ) (b n : ℕ) → b ≢ 0 → outcomes_at p b n ≡ []
 outcomes_at-nonzero p b n h = grind arith
 
--- the outcomes of the front p of a piece and one more byte b
+-- the outcomes of a stream that consists of the front p of a piece and one more byte b
 pub stream_outcomes-push_piece : (p : List ℕ) (b n : ℕ) → HasNoZero p → stream_outcomes (p ++ b ∷ []) n ≡ outcomes_at p b n
 stream_outcomes-push_piece p zero n h = stream_outcomes-piece p n h
 stream_outcomes-push_piece p (suc b) n h =
     grind (arith, stream_outcomes-no_zero, All-push (λ x. x ≢ 0) p (suc b) h (λ e. omega arith))
 
--- the unended bytes of the front p of a piece and one more byte b
+-- the unended bytes of a stream that consists of the front p of a piece and one more byte b
 pub unended-push_piece : (p : List ℕ) (b : ℕ) → HasNoZero p → unended (p ++ b ∷ []) ≡ fed p b
 unfolding unended
 unended-push_piece p zero h = grind (arith, stretches-piece)

@@ -63,12 +63,12 @@ same_first : (b c : List ℕ) (bs cs : List (List ℕ)) → All IsBlock (b ∷ b
 same_first [] c bs cs h i e = grind (arith, All-head)
 same_first (x ∷ b) [] bs cs h i e = grind (arith, All-head)
 same_first (x ∷ b) (y ∷ c) bs cs h i e =
-    -- both are the first 254 bytes before the first zero of the same message (`e`)
+    -- b and c are both the first 254 bytes, or fewer, before the first zero of the same message (`e`)
     let bytes : b ≡ c = first_bytes x b bs 254 h refl ∙ ap (λ m. take 254 (head m)) e ∙ sym (first_bytes y c cs 254 i refl) in
     grind (arith, All-head)
 
--- if a block alone stands for the same message as this block and other blocks, it is full, and the only other block is
--- the lone block
+-- if a block alone stands for the same message as this block and the blocks after it, this block is full, and the only
+-- block after it is the lone block
 then_lone : (b d : List ℕ) (ds : List (List ℕ)) → All IsBlock (b ∷ d ∷ ds) → bytes_of b ≡ message_of (b ∷ d ∷ ds) → IsFull b × (d ∷ ds ≡ lone_block ∷ [])
 then_lone b d ds h e =
     -- the joint of b and the message of the other blocks have no byte

@@ -54,6 +54,6 @@ returns c =
     let at = goal.at.returns c in
     window-front (marked at.After-mark_zeros-index (copied at.After-copy_window-mask)) (omega arith) c.encoder_at-2.ensures
 
--- if the mask is 0, the window has no zero, and is taken at once
+-- if the mask is 0, the window has no zero, and it is taken without a call of `mark_first`
 pub returns-then-mask-eq0 : goal.returns-then-mask-eq0
 returns-then-mask-eq0 c = window-front (masked-end (copied (goal.at.returns-then-mask-eq0 c).After-copy_window-mask) c.if-mask-eq0.true) (omega arith) c.encoder_at.ensures

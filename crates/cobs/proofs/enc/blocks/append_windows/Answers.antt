@@ -89,14 +89,14 @@ row c w =
     -- last of the n ones is at the place of the next block's code.
     (row-taken (w.copied.reaches) w.short fits c.write_codes_of_zeros-zeros.result some (omega arith) written.zeros written.written, some, omega arith)
 
--- a window that has only zeros begins a row of zeros, which is taken
+-- a window that has only zeros is taken, together with the zeros after it that `write_codes_of_zeros` has found (`row`)
 pub by_window-preserved-then-window-eq-ALL_ZEROS : goal.by_window-preserved-then-window-eq-ALL_ZEROS
 by_window-preserved-then-window-eq-ALL_ZEROS c =
     let at = goal.at.by_window-preserved-then-window-eq-ALL_ZEROS c in
     let t = row at.After-write_codes_of_zeros-zeros (copied at.After-copy_at-window) in
     grind arith
 
--- the row isn't empty, so fewer bytes are left
+-- at least one zero is taken (`row`), so fewer bytes are left
 pub by_window-smaller-then-window-eq-ALL_ZEROS : goal.by_window-smaller-then-window-eq-ALL_ZEROS
 by_window-smaller-then-window-eq-ALL_ZEROS c =
     let at = goal.at.by_window-smaller-then-window-eq-ALL_ZEROS c in
