@@ -89,7 +89,7 @@ module _ {s : Start} {slice : List ℕ} {read len index next zeros : ℕ} (w : C
       let joined = copied-joins w.copied until_full (omega arith) (omega arith) (omega arith) nonzero in
       Reaches-full (rw sum at joined) more refl w.copied.room refl
 
--- a window that is taken whole, and leaves its block open
+-- a window that is taken whole, and after which the open block isn't full (`open'`)
 pub record WindowTaken (s : Start) (slice : List ℕ) (read len index next : ℕ) : Type 0 where
   pub ordered : index < next + len
   pub open' : next + len < index + 255
@@ -123,7 +123,7 @@ module _ {s : Start} {slice : List ℕ} {read len index next zeros d : ℕ} (m :
 
   -- a zero of the window is left, so the next zero closes the open block
   module _ (some : zeros ≢ 0) where
-    -- the mask has a bit for each byte of the window
+    -- the window has at most 64 bytes, so the mask has a bit for each of them
     small : d + length left ≤ 64
     small = grind (arith, length-take-le, length-drop)
 
@@ -158,7 +158,7 @@ module _ {s : Start} {slice : List ℕ} {read len index next zeros d : ℕ} (m :
         -- a zero
         let front = take-take j (len - d) _ (omega arith) in
         let there = mask_behind-some d left some_bits in
-        -- no byte before the zero is a zero; these bytes are in the slice (`here`)
+        -- none of the j bytes before the zero is a zero; these bytes are in the slice (`here`)
         let nonzero = subst HasNoZero front (nonzero_len-before left there) in
         let here = sym (take-take j (len - d) _ (omega arith)) ∙ ap (take j) m.here ∙ front in
         -- the byte after them is the zero: it has index j among the bytes that are left, so index `read + d + j` in the

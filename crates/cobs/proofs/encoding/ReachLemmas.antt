@@ -12,8 +12,7 @@ use Rattle.cobs.proofs.encoding.OpenedLemmas.{Opened-code, Opened-same-empty, Op
 use Rattle.cobs.proofs.encoding.OpenLenLemmas.{len-end, open_len-full, open_len-run, open_len-zero, open_len-least}
 use Rattle.cobs.specs.Internal.Reaches.{HadTaken, Opened, Reaches, Start, whole_end}
 
--- `Reaches` also holds for equal numbers and an equal slice that are written in another way, and for a weaker property
--- Q
+-- `Reaches` also holds if the numbers and the slice are replaced by equal ones, and P by a weaker property Q
 pub Reaches-at : {s : Start} {slice slice' : List ℕ} {pos pos' index index' next next' : ℕ} {P Q : Bool → Type 0} → slice ≡ slice' → pos ≡ pos' → index ≡ index' → next ≡ next'
     → ((full : Bool) → P full → Q full) → Reaches s slice pos index next P → Reaches s slice' pos' index' next' Q
 Reaches-at s p i n weaker r = grind arith

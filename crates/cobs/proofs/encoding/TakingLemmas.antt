@@ -90,7 +90,8 @@ module _ {source old slice : List ℕ} {r r' : Reached} (fits : end_after r sour
         rest = grind (arith, drop-set-lt);
       })
 
--- a byte filled the open block, whose code 255 is now written; bytes may be left or not
+-- the last byte that was taken filled the open block, whose code 255 is now written; bytes of the source may be left or
+-- not
 pub front-filled : {source old slice : List ℕ} {r r' : Reached} {pos index next code : ℕ} {P : Bool → Type 0} → end_after r source ≤ length slice
     → next ≡ index + 255 → Reaches (start_with old r source) slice pos index next P
     → code ≡ 1 → r' ≡ place_at next code true → TakesFront old r source pos (set slice index 255) r'
