@@ -1,6 +1,6 @@
 -- Lemmas on the blocks of an open frame. The main lemma is `encoded-of`: the encoded frame of the same message is the
--- open frame itself, or only the blocks before the last block, if the last block has no byte and follows a full block.
--- `message_of-close` and `message_of-more` say how the message depends on the last block.
+-- open frame itself or, if the last block is the lone block and follows a full block, only the blocks before the last
+-- block. `message_of-close` and `message_of-more` say how the message depends on the last block.
 use Rattle.std.proofs.Common.{◌≡◌, ◌≢◌, ℕ, ◌+◌, Bool, true, false, if◌then◌else◌, List, [], ◌∷◌, ◌++◌, length, All, refl, ap, ◌∙◌, arith, append-nil, append_assoc}
 use Rattle.std.specs.List.{concat}
 use Rattle.std.proofs.lemmas.List.{same_from_push}
@@ -11,7 +11,8 @@ use Rattle.cobs.proofs.format.GrammarLemmas.{encoded-by, IsShorter}
 use Rattle.cobs.proofs.format.FrameLemmas.{All-apart, concat-push, last_of-push}
 use Rattle.cobs.proofs.format.JoinLemmas.{message_of-append}
 
--- the message of blocks with a lone block after them is the message of the blocks, and the joint of the last of them
+-- the message of some blocks and a lone block after them is the message of these blocks, and then the joint of the last
+-- of these blocks
 pub message_of-close : (front : List (List ℕ)) → front ≢ [] → message_of (front ++ lone_block ∷ []) ≡ message_of front ++ joint (last_of front)
 message_of-close front some = grind (arith, message_of-append, append-nil)
 

@@ -1,7 +1,7 @@
 -- The frames of a message (`all_frames`): its encoded frame and, if the message ends in a full run, that frame followed
 -- by the lone block. Each message has an encoded frame (`encoded_frame`), because an encoder reaches an open frame of
--- it (`after_all`). Every other frame of the message has the same blocks and the lone block (`same_blocks`). An encoded
--- frame ends in a full block exactly if its message ends in a full run (`ends_in_full`).
+-- the message (`after_all`). Every other frame of the message has the same blocks, and then the lone block
+-- (`same_blocks`). An encoded frame ends in a full block exactly if its message ends in a full run (`ends_in_full`).
 use Rattle.std.proofs.Common.{◌≡◌, ◌≢◌, ℕ, zero, suc, ◌+◌, ◌%◌, ◌<◌, ◌↔◌, List, [], ◌∷◌, ◌++◌, length, map, refl, ap, ◌∙◌, arith, append-nil, append_assoc, length-append, inl, inr, ⊎_elim}
 use Rattle.std.proofs.lemmas.List.Folds.{concat-append}
 use Rattle.std.proofs.lemmas.List.{length_push}

@@ -33,7 +33,7 @@ stretches-append [] u = refl
 stretches-append (zero ∷ t) u = grind (arith, stretches-append t u, length-stretches t)
 stretches-append (suc b ∷ t) u = grind (arith, stretches-append t u)
 
--- all lists of xs and ys, end to end, except the last one
+-- all lists of xs ++ ys except the last one: the lists of xs, and then all lists of ys except the last one
 but_last-append : (xs ys : List (List ℕ)) → 0 < length ys → but_last (xs ++ ys) ≡ xs ++ but_last ys
 unfolding but_last
 but_last-append [] ys h = refl

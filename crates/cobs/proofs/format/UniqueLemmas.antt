@@ -22,7 +22,7 @@ some_message [] blocks is more e = absurd is
 some_message (code ∷ bytes) [] is more e = more refl
 some_message (code ∷ bytes) (next ∷ blocks) is more e = grind (arith, length-append, ap length e)
 
--- blocks that stand for the empty message are only the lone block
+-- if one or more blocks stand for the empty message, they are only the lone block
 empty_message : (b : List ℕ) (bs : List (List ℕ)) → All IsBlock (b ∷ bs) → message_of (b ∷ bs) ≡ [] → b ∷ bs ≡ lone_block ∷ []
 empty_message [] bs h e = grind (arith, All-head)
 empty_message (c ∷ bytes) [] h e = grind (arith, All-head)
