@@ -23,7 +23,7 @@ module _ (c : After-copy_window-mask) where
       let copy = c.copy_window-mask.ensures in
       short-copied (omega arith) r.some r.few (omega arith) r.fits copy.copied copy.zeros
 
--- each call that marks zeros requires that the mask describes a window: here the first call of `mark_first`
+-- `mark_first` and `mark_zeros` require that the mask describes a window: here for the first call of `mark_first`
 pub mark_first-first-requires : goal.mark_first-first-requires
 mark_first-first-requires c = (_, _, _, copied (goal.at.mark_first-first-requires c).After-copy_window-mask)
 
@@ -35,7 +35,7 @@ mark_first-index-requires c = (_, _, _, c.mark_first-first.ensures.marks _ _ _ (
 pub mark_zeros-index-requires : goal.mark_zeros-index-requires
 mark_zeros-index-requires c = (_, _, _, c.mark_first-index.ensures.marks _ _ _ (c.mark_first-first.ensures.marks _ _ _ (copied (goal.at.mark_zeros-index-requires c).After-copy_window-mask)))
 
--- after `mark_zeros`, all zeros are marked, so the window is taken
+-- after `mark_zeros`, each zero of the window has closed a block, so the window is taken
 marked : (c : After-mark_zeros-index) → let r = reached_by c.args.encoder in let s = start_with c.args.dest.now r c.args.source.now in
     IsMasked s 0 (length c.args.source.now) (next_of r) c.copy_window-mask.result c.args.encoder.index c.copy_window-mask.new.dest
     → WindowTaken s c.mark_zeros-index.new.dest 0 (length c.args.source.now) c.mark_zeros-index.result (next_of r)

@@ -1,4 +1,4 @@
--- Each iteration takes one of these: a window without a zero (`masked-end`), a window whose zeros are marked
+-- Each iteration takes one of these: a window without a zero (`masked-end`), a window whose zeros close blocks
 -- (`masked-step`), one or more windows of zeros (`row-taken`), or the bytes that fill the open block (`filled`).
 use Rattle.std.proofs.Common.{ℕ, ◌≡◌, refl, ◌≢◌, ◌<◌, ◌≤◌, ◌+◌, ◌-◌, min, arith, length, take, drop, length-drop}
 use lib.Count.{count_trailing_zeros}

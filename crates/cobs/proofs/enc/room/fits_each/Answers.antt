@@ -18,6 +18,7 @@ returns c = grind (arith, len-end)
 -- one more byte is counted
 pub by_byte-preserved : goal.by_byte-preserved
 by_byte-preserved c =
+    -- a byte is left, as `len-full` needs
     let next = c.by_byte-test.true in
     -- after a full block is closed, the invariant holds for an open block that has room for the byte
     let ready : (c.if-taken-eq-FULL_BLOCK_BYTES.taken < 254) × (0 < c.if-taken-eq-FULL_BLOCK_BYTES.left)
