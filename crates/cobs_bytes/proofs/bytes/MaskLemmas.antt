@@ -59,7 +59,7 @@ pub zero_mask-clear : (bytes : List ℕ) → HasNoZero bytes → zero_mask bytes
 zero_mask-clear [] nz = refl
 zero_mask-clear (b ∷ bytes) nz = grind (arith, All-tail, clear_if, All-head, zero_mask-clear bytes (All-tail (λ b. b ≢ 0) b bytes nz))
 
--- how many bytes are before the first zero
+-- how many bytes are before the first zero, or the number of all bytes if there is no zero
 abbrev pub nonzero_len : List ℕ → ℕ
 nonzero_len bytes = prefix_len (λ b. not (eqb b 0)) bytes
 
@@ -76,13 +76,13 @@ nonzero_len-before bytes some = grind (arith, nonzero_len, nonzero_len-lt, lengt
 pub nonzero_len-at : (bytes : List ℕ) → zero_mask bytes ≢ 0 → get_or bytes (nonzero_len bytes) 0 ≡ 0
 nonzero_len-at bytes some = grind (arith, eqb-true, not-false, prefix_len_stops, nonzero_len-lt)
 
--- the number of the lowest set bit is the index of the first zero
+-- if the mask isn't 0, the number of its lowest set bit is the index of the first zero
 pub lowest_bit : (bytes : List ℕ) → length bytes ≤ 64 → zero_mask bytes ≢ 0 → count_trailing_zeros 64 (zero_mask bytes) ≡ nonzero_len bytes
 lowest_bit bytes few some =
     grind (arith, trailing_mask_l, zero_mask-lanes bytes)
 
--- the mask of these bytes after d nonzero bytes (the definition has ones for them). A loop that removes set bits one by
--- one has this mask after the first d bytes.
+-- the mask of d nonzero bytes followed by these bytes (the definition has ones for the nonzero bytes). If a loop
+-- removes the set bits one by one, this is its mask once the bits of the first d bytes are removed.
 abbrev pub mask_behind : ℕ → List ℕ → ℕ
 mask_behind d bytes = zero_mask (replicate d 1 ++ bytes)
 
@@ -131,7 +131,7 @@ less-odd m z is =
     -- m is 1 + 2 * z and m - 1 is 0 + 2 * z: their lowest bits give 0, and their other bits are both z (`and-step`)
     ap (bit_and m) less ∙ ap (λ k. bit_and k (0 + 2 * z)) is ∙ and-step 1 0 z z (omega arith) (omega arith) ∙ omega (arith, and_self z)
 
--- for an even number 2 * z, the lowest set bit is removed from z
+-- for an even number 2 * z, this is twice the number z without its lowest set bit
 less-even : (m z : ℕ) → z ≢ 0 → m ≡ 2 * z → bit_and m (m - 1) ≡ 2 * bit_and z (z - 1)
 less-even m z some is =
     let all : m ≡ 0 + 2 * z = omega arith in
