@@ -17,7 +17,7 @@ returns c = record {
   head_for = λ t n s. xor_head t n s;
   found = first_piece_some;
   none = first_piece_none;
-  -- a stream without an outcome has no piece that has ended (`no_outcomes`), so its last piece has its unended bytes
+  -- a stream without an outcome has no piece that has ended (`no_outcomes`), so its last piece is its unended bytes
   last = λ t n none. last_piece-unended t (no_outcomes t n none);
   last_ended = λ t n none. last_piece-zero t (no_outcomes t n none);
 }
