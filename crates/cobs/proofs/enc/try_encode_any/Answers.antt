@@ -1,4 +1,4 @@
--- A new encoder has taken the whole source by `try_append` (`start-after`), and `close` completes the frame.
+-- `try_append` has encoded the whole source with a new encoder (`start-after`), and `close` completes the frame.
 use Rattle.std.proofs.Common.{◌<◌, ◌∙◌, length, arith}
 use Rattle.cobs.proofs.encoding.TakingLemmas.{start-after, start-len}
 use Rattle.cobs.proofs.format.SentinelLemmas.{encoded_nonzero}
