@@ -1,5 +1,5 @@
 // Made by bindings/rust/translate.py from `crates/cobs_bytes/src/window.rt`: change that file, and run it again.
-//! Functions that find zeros, and copy and write up to 64 bytes, in SIMD vectors.
+//! Functions that find zeros, compare bytes, and copy and write up to 64 bytes, in SIMD vectors.
 
 use crate::simd::*;
 
