@@ -1,6 +1,6 @@
--- The kept output of a piece h is the output of all its bytes except some of the last 253 (`kept-cut`), since a broken
--- block has at most 253 bytes after its code. Proved in steps from block to block (`ends-next`), as `kept_len` makes
--- them: a block ends at a place in h if no byte of a block is missing before that place.
+-- The kept output of a piece h is the output of all its bytes except the last few, which are at most 253 (`kept-cut`),
+-- since a broken block has at most 253 bytes after its code. The proof goes from block to block (`ends-next`), as
+-- `kept_len` does: a block ends at a place in h if no byte of a block is missing before that place.
 use Rattle.std.proofs.Common.{◌≡◌, ◌≢◌, ℕ, zero, suc, All, inl, inr, length-append, refl, ◌+◌, ◌-◌, ◌<◌, ◌≤◌, List, [], ◌∷◌, ◌++◌, length, take, drop, replicate, get_or, arith, append_assoc, append-nil, take_all, take_at}
 use Rattle.std.proofs.lemmas.List.{drop_more, take_more, length-take-le, length-drop, take-append-drop}
 use Rattle.std.proofs.Math.Seq.{take-add}
@@ -95,7 +95,7 @@ unfolding kept_output
 whole-kept [] h = grind (arith, output-empty)
 whole-kept (c ∷ p) h = grind (arith, is_whole-of, eq-eqb)
 
--- the kept output is the output of the first k bytes, which are all bytes except some of the last 253
+-- the kept output is the output of the first k bytes, and at most 253 bytes come after them
 abbrev KeptBy : List ℕ → ℕ → Type 0
 KeptBy h k = (length h ≤ k + 253) × (output (take k h) ≡ kept_output h)
 

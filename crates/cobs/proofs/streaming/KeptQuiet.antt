@@ -1,8 +1,9 @@
--- The bytes h before a zero are decoded up to the last byte whose output is kept: lemmas for `decode_blocks` and
--- `decode_blocks_in_place`. If the first k bytes of h are fed, and their output is the kept output of h, the result and
--- the buffer are right (`kept_fed` in the source's own buffer, `kept_fits` in another one); if the buffer is full
--- before that, the result is an error (`kept_stop`). By `quiet` for the bytes that are fed, and by `TailLemmas` for the
--- bytes that aren't fed.
+-- Lemmas for `decode_blocks` and `decode_blocks_in_place`, which decode the bytes h before a zero up to the last byte
+-- whose output is kept. If the first k bytes of h are fed, and their output is the kept output of h, the result and the
+-- buffer are those that the contract states: `kept_fed` says this of decoding in place, and `kept_fits` of decoding
+-- into another buffer. If the buffer has no room for the output of one of these bytes, the result is an error
+-- (`kept_stop`). The lemmas are by `quiet` for the bytes that are fed, and by `TailLemmas` for the bytes that aren't
+-- fed.
 use Rattle.std.proofs.Common.{◌≡◌, ◌≢◌, ℕ, inl, inr, sym, length-take, ◌-◌, ◌<◌, ◌≤◌, ◌↔◌, IsTrue, Bool, false, get_or, List, ◌++◌, length, take, drop, refl, ap, ◌∙◌, arith, take_all, Result, Ok, Err}
 use Rattle.std.specs.List.{All}
 use Rattle.std.proofs.lemmas.List.{get_or-take, take-take}

@@ -34,7 +34,7 @@ pub FeedsQuietly-more : (bytes buffer buffer' buffer'' : List ℕ) (phase phase'
 FeedsQuietly-more bytes buffer buffer' buffer'' phase phase' phase'' run more f g = grind (arith, take-add, FeedsQuietly-append)
 
 -- `ys` replaces the bytes of `dest` from index `at` on. If `ys` is these bytes with xs written over the first n of
--- them, then `dest` now has xs at index `at`, and its other bytes are as they were.
+-- them, the result is `dest` with xs written over its n bytes from index `at` on.
 pub part_put : (at n : ℕ) (dest ys xs : List ℕ) → ys ≡ xs ++ drop n (take (length dest - at) (drop at dest)) → put_mid at (length dest - at) dest ys ≡ take at dest ++ (xs ++ drop (at + n) dest)
 part_put at n dest ys xs is = grind (arith, drop_all, length-drop, take_rest, drop-drop, append-nil)
 
@@ -157,10 +157,11 @@ row_fed n inner dest bytes new some few going none due room ones is =
 pub joint-is : (code joint : ℕ) → (code ≡ 255 → joint ≡ 0) → (code ≢ 255 → joint ≡ 1) → eqb joint 0 ≡ eqb code 255
 joint-is code joint full other = grind (arith, ne_eqb)
 
--- the `len` bytes xs were copied or moved to the end of the output: the buffer was `before`, and is now `dest`
+-- the `len` bytes xs were copied or moved to the place after the output, that is, to index `written`: `before` is the
+-- buffer before this, and `dest` is the buffer after it
 module _ (inner : UnbufferedDecoder) (len : ℕ) (dest : List ℕ) (nz : HasNoZero (take len (drop inner.written dest))) (before xs : List ℕ) (room : inner.written + len ≤ length before) (long : length xs ≡ len)
     (is : dest ≡ take inner.written before ++ (xs ++ drop (inner.written + len) before)) (going : inner.too_long ≡ 0) (full : inner.joint ≡ 0 → len ≤ inner.missing) (few : (0 < len) × (len < 254)) where
-  -- the bytes at the end of the output, which are xs (`part-is`)
+  -- the `len` bytes of `dest` after the output, which are xs (`part-is`)
   abbrev part : List ℕ
   part = take (inner.written + len - inner.written) (drop inner.written dest)
 

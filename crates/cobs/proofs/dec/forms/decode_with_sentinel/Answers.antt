@@ -1,5 +1,6 @@
--- A short frame is decoded as one span into a local buffer, and any other frame by `decode_blocks`. Each of the two
--- results is the result for the bytes before the first sentinel (`result_of_sentinel_decode-head`).
+-- A short frame that is whole is decoded as one span into a local buffer, and any other frame by `decode_blocks`. Each
+-- of the two results is the result for the bytes before the first sentinel (`result_of_sentinel_decode-head`). On a
+-- target without vectors, `decode_head_each` decodes every frame.
 use Rattle.std.proofs.Common.{◌≡◌, ◌<◌, ◌-◌, ℕ, List, Some, Ok, length, take, ap, length-take-le, sym, arith}
 use Rattle.std.proofs.lemmas.Bool.{eqb-true}
 use Rattle.cobs.specs.Overwritten.{overwritten}

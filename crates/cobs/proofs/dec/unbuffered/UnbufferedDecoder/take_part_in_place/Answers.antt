@@ -16,7 +16,7 @@ take_moved-requires-clause-nonzero c =
     let n : ℕ = c.span_len-len.result in
     let bytes : List ℕ = drop c.args.read c.args.buffer.now in
     let long = length-take-le n bytes (omega (arith, length-drop c.args.read c.args.buffer.now)) in
-    -- the bytes after the output are now the next n bytes of the frame (`copied-there`)
+    -- after the move, the bytes after the output are the next n bytes of the frame (`copied-there`)
     rw (sym (copied-there c.args.self.now.written n c.args.buffer.now c.move_back-2.new.buffer (take n bytes) (omega arith) long c.move_back-2.ensures)) at (part-nonzero 0 n _ bytes c.requires.nonzero (omega arith))
 
 -- a code and the n bytes of its block
