@@ -55,6 +55,8 @@ module _ (h : List ℕ) (at code : ℕ) (here : at < length h) (is : code ≡ ge
   -- if h has all bytes of the block, a block ends after them
   pub ends-next : 0 < code → at + code ≤ length h → missing (last_part (take (at + code) h)) ≡ 0
   ends-next some fits =
+      -- the block ends `code - 1` bytes after its code (`next`), and h has these bytes (`l` has the number of the bytes
+      -- after the code)
       let next : at + 1 + (code - 1) ≡ at + code = omega arith in
       let l = length-drop (at + 1) h in
       grind (arith, ends-start, front-left)

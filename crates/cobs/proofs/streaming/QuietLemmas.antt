@@ -31,7 +31,8 @@ pub quiet-piece : (xs old new : List ℕ) (phase : Phase) → (0 < length xs →
 quiet-piece xs old new phase first f = elim (cases_lt (length (head xs)) (length xs)) [
   | inl more ↦
       let none = (piece-all xs old new Idle phase f).takes.outcomes [] (DecoderAfter-idle old Idle refl) in
-      -- the bytes before the first zero of xs aren't empty; with this zero they are a piece that has ended (`one`)
+      -- the bytes before the first zero of xs aren't empty; with this zero they are a piece that has ended (`one`),
+      -- which contradicts `none`
       let some : head xs ≢ [] = λ e. omega (arith, ap length e, head_some xs (omega arith) (first (omega arith))) in
       let cut = head-cut xs more in
       let one = stream_outcomes-front (head xs) (drop (length (head xs) + 1) xs) (length old) some (head_nonzero xs) in
@@ -40,8 +41,7 @@ quiet-piece xs old new phase first f = elim (cases_lt (length (head xs)) (length
   | inr all ↦ subst HasNoZero (sym (head-front xs) ∙ take_all (length (head xs)) xs all) (head_nonzero xs)
 ]
 
--- the front p of a piece was fed quietly to an idle decoder; the buffer was `old` before p was fed, and is `new` after
--- p
+-- the front p of a piece was fed quietly to an idle decoder; `old` is the buffer before p, and `new` is the one after p
 pub record Quiet (old new : List ℕ) (phase : Phase) (p : List ℕ) : Type 0 where
   pub after : DecoderAfter new phase p
   pub rest : drop (length (output p)) new ≡ drop (length (output p)) old

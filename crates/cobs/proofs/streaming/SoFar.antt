@@ -32,7 +32,7 @@ outcome_reported (Err error) buffer = error_outcomes error
 abbrev pub reported_by : ℕ → Result (Option ℕ) DecodeError → List ℕ → List Outcome
 reported_by byte result buffer = cond (eqb byte 0) (outcome_reported result buffer) []
 
--- LISTS OF OUTCOMES, AND ZEROS IN A LIST OF BYTES
+-- LISTS OF OUTCOMES, AND BYTES WITH OR WITHOUT A ZERO
 
 -- a list that is alike to the empty list is empty
 alike-nil : (xs : List Outcome) → AreAlikeAtFirst xs [] → xs ≡ []

@@ -248,6 +248,7 @@ impl UnbufferedDecoder {
         if len < 2 || dest.len() < len - 1 {
             return false;
         }
+        // Only the copy is needed, and not the mask of the zeros that `copy_window` returns: no byte is a zero.
         let _zeros = copy_window(&bytes[1..], dest, 0);
         let first = bytes[0] as usize;
         let (code, missing) = write_zeros_by_rows(&mut dest[..len - 1], &bytes[1..], first, 0);

@@ -75,8 +75,7 @@ returns-then-take_blocks-tail c =
     let here = get_or-take (tail at) (h at) c.take_blocks.result 0 c.if-take_blocks-tail.true in
     kept_stop _ _ _ _ cut.0 _ cut.1.1 c.requires (omega (arith, cut.1.0, long at)) (omega (arith, long at)) (first at) (rw here at stop)
 
--- after both calls: the first call took all of its bytes (`fed`), and the second call got the first bytes of the last
--- 254
+-- after both calls: the first call took all of its bytes (`fed`), and the second got the first bytes of the last 254
 module _ (c : After-take_blocks-2) (fed : FeedsQuietly c.args.dest.now Idle (take c.saturating_sub-tail.result (xor_each c.args.sentinel c.args.source.now))
     c.take_blocks.new.dest (phase_of c.take_blocks.new.self)) where
   -- the bytes that both calls took are fed quietly

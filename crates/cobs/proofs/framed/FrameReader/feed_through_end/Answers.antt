@@ -53,7 +53,8 @@ pub invariant_of-self-clause-has_taken : goal.invariant_of-self-clause-has_taken
 invariant_of-self-clause-has_taken g c = ∥∥₁_map c.args.self.now.has_taken (λ w. (
   _,
   record {
-    -- the decoder had been fed some front (`w.0`), and has now been fed its unended bytes after these bytes too
+    -- the decoder had been fed some front of a piece, `w.0`. After the call, it has been fed the unended bytes of `w.0`
+    -- followed by the bytes that were passed.
     after = c.in-None.ensures.takes.takes.after w.0 w.1.after;
     flag = grind arith;
   },
