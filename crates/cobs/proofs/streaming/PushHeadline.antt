@@ -65,7 +65,7 @@ module _ (buffer bytes buffer' f m : List ℕ) (phase phase' : Phase) (idle : ph
   stated (Ok None) w p = absurd p
   stated (Err failure) w p = absurd p
   stated (Ok (Some report)) w p =
-      -- the consumed bytes have one outcome, for which the report stands: it is the outcome of f (`first`)
+      -- the push reports the only outcome of the consumed bytes, and this is the outcome of f (`first`)
       let first = outcomes-first f [] (length buffer) (parsed_size_of report) piece.0 piece.1 _ [] (outcomes (Ok (Some report)) w) in
       cc
 
@@ -82,8 +82,8 @@ module _ (buffer bytes buffer' f m : List ℕ) (phase phase' : Phase) (idle : ph
       let first = outcomes-first f [] (length buffer) (parsed_size_of report) piece.0 piece.1 _ [] (outcomes (Ok (Some report)) w) in
       let bound = w.bound in
       grind (arith, length-take-le)
-  -- The push can't return an error. After the zero, the error would stand for an outcome that isn't a message. Before
-  -- the zero, each byte returns `Ok(None)`.
+  -- The push can't return an error. If the zero returned it, the outcome of f wouldn't be a message. Each byte before
+  -- the zero returns `Ok(None)`.
   pushed (Err failure) w e = elim (cases_lt (length f) failure.parsed_size) [
     | inl all ↦
         -- the zero is among the consumed bytes, so their first outcome is that of f, a message (`outcomes-behind`)

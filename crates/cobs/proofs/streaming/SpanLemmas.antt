@@ -1,7 +1,7 @@
 -- Lemmas for the functions of `dec/run.rt`, which take up to 253 bytes at once: they write the bytes after the output,
 -- with a zero over each code (`walked`). `IsSpan` says which bytes may be taken so, and `open_fed` says that this has
 -- the effect of feeding them; it is by `fed_walked`. From it follow `block_fed` for bytes of the open block, `row_fed`
--- for a row of codes 01, and `kept` and `marked` for bytes that were copied or moved after the output.
+-- for blocks that each have the code 1, and `kept` and `marked` for bytes that were copied or moved after the output.
 use Rattle.std.proofs.Common.{◌≡◌, ◌≢◌, ℕ, zero, suc, ◌+◌, ◌-◌, ◌<◌, ◌≤◌, eqb, List, [], ◌∷◌, ◌++◌, length, take, drop, refl, sym, ◌∙◌, arith, length-take-le, length-drop, replicate, take-append-drop, take_all}
 use Rattle.std.proofs.lemmas.List.{append-nil, drop_all, drop-drop, length-replicate, take_rest, take-append-drop}
 use Rattle.std.proofs.Math.Seq.{drop-append_seam, take-add, take-append_seam}
@@ -124,12 +124,13 @@ block_fed inner (suc run) dest bytes new going most room within nz is =
     let fed = open_fed s inner.joint (sym past) (code_by-full inner.joint) in
     grind arith
 
--- `walked` of n codes 1, after a block 1: each of the codes becomes a zero
+-- `walked` of n bytes that are all the code 1, after a block with the code 1: each of the n codes becomes a zero
 row_ones : (n : ℕ) → walked 1 0 (replicate n 1) ≡ (replicate n 0, 1, 0)
 row_ones zero = refl
 row_ones (suc n) = grind (arith, row_ones n)
 
--- `walked` of bytes that begin with n codes 1, after a block 1: each of these codes becomes a zero
+-- `walked` of bytes of which the first n are all the code 1, after a block with the code 1: each of these n codes
+-- becomes a zero, and then the other bytes are walked over
 pub row_walked : (n : ℕ) (bytes : List ℕ) → take n bytes ≡ replicate n 1
     → walked 1 0 bytes ≡ let w = walked 1 0 (drop n bytes) in (replicate n 0 ++ w.0, w.1, w.2)
 row_walked n bytes ones =
@@ -137,8 +138,8 @@ row_walked n bytes ones =
     let front = walked-append 1 0 (take n bytes) (drop n bytes) in
     grind (arith, row_ones, take-append-drop)
 
--- If the next n bytes are codes 1, and the block before them is whole and not full, n zeros are written after the
--- output. This has the effect of feeding the codes.
+-- If each of the next n bytes is the code 1, and the block before them is whole and not full, n zeros are written after
+-- the output. This has the effect of feeding the codes.
 pub row_fed : (n : ℕ) (inner : UnbufferedDecoder) (dest bytes new : List ℕ) → 0 < n → n < 254 → inner.too_long ≡ 0 → inner.missing ≡ 0 → inner.joint ≢ 0 → inner.written + n ≤ length dest → take n bytes ≡ replicate n 1
     → new ≡ take inner.written dest ++ (replicate n 0 ++ drop (inner.written + n) dest)
     → FeedsQuietly dest (phase_of inner) (take n bytes) new (phase_of (moved_on inner n inner.missing inner.joint))

@@ -21,7 +21,7 @@ pub record IsMaskedAt (start : Start) (read len next zeros index : ℕ) (slice :
   pub reaches : Reaches start slice (read + d) index (next + d) (λ full. 0 < d → full ≡ false)
 
 -- codes have replaced some zeros of the window. The window is encoded up to and including the last of these zeros, and
--- the open block begins at the place of this zero.
+-- the open block begins at the place of this zero. If no zero is replaced yet, no byte of the window is encoded.
 abbrev pub IsMasked : Start → ℕ → ℕ → ℕ → ℕ → ℕ → List ℕ → Type 0
 IsMasked start read len next zeros index slice = IsMaskedAt start read len next zeros index slice (index + 1 - next)
 

@@ -65,7 +65,7 @@ module _ (c : After-zeros_at-later) where
   later : Window (drop at source) c.zeros_at-later.result
   later = grind (arith, length-drop)
 
-  -- if k bytes from `at` on aren't zeros, no byte before their end is a zero
+  -- if the k bytes from index `at` on aren't zeros, none of the first at + k bytes is a zero
   both : (k : ℕ) → HasNoZero (take k (drop at source)) → HasNoZero (take (at + k) source)
   both k after =
       -- the bytes before `at` are in the first window, which has no zero (`none`)

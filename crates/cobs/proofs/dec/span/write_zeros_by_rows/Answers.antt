@@ -1,5 +1,5 @@
--- If `dest` begins with rows of codes 1 (`ones`), each of these codes becomes a zero (`row_walked`), and
--- `write_zeros_at_copied` goes on after the rows (`goes_on`).
+-- If `dest` begins with rows of blocks that each have the code 1 (`ones`), each of these codes becomes a zero
+-- (`row_walked`), and `write_zeros_at_copied` goes on after the rows (`goes_on`).
 use Rattle.std.proofs.Common.{◌≡◌, ◌≢◌, ◌-◌, ◌+◌, ◌≤◌, ◌++◌, ◌∷◌, [], refl, sym, ap, append-nil, length-append, ℕ, List, bit_xor, arith, drop, take, length, length-drop, replicate, take_all, take_at}
 use Rattle.std.proofs.lemmas.List.{drop_all, drop_at, length-map, length-replicate}
 use Rattle.std.proofs.lemmas.List.Elements.{All-cons, All-drop, All-tail}
