@@ -34,7 +34,7 @@ joins h at n within few =
     let l = length-take-le n (drop at h) within in
     rw (take-add at n h) (omega (arith, (into_last (take at h) (take n (drop at h)) (omega arith)).left))
 
--- THE WALK OF `kept_len`
+-- THE WALK OF `kept_len`, AND THE BYTES WHOSE OUTPUT IS THE KEPT OUTPUT
 
 -- if `left` bytes of a block are missing at the place `start`, the block ends `left` bytes later; the first block that
 -- `kept_len` steps over began before `start`

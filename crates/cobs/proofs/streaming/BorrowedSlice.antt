@@ -5,7 +5,7 @@
 -- This is a proof in separation logic. The token of a lifetime (`flft`) says that the lifetime hasn't ended. A borrow
 -- (`fbor`) is the right to use a place in memory until a lifetime ends; to read or write this place, the proof opens
 -- the borrow, and closes it later. While a value is lent, there are two facts that agree on its present value: the half
--- of the reference (`fobs`) and the half of the borrow (`fauth`). `follows` says how the last value of a whole, here
+-- of the reference (`fobs`) and the half of the borrow. `follows` says how the last value of a whole, here
 -- the decoder, follows from the last value of its part.
 use mathlib.Core.Path.{refl, ap}
 use mathlib.Core.List.{List, [], ◌∷◌}

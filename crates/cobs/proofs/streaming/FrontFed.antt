@@ -1,9 +1,9 @@
--- The first `run` bytes of a source that begins with a code were fed quietly to an idle decoder (`FrontFed`). The
--- proofs of `decode_long`, `decode_piece` and `decode_blocks` use these lemmas; that of `decode_blocks` uses them
--- through `kept_stop` of `KeptQuiet`. Either the bytes that were fed end before a zero or at the source's end, and are
--- its whole first piece (`whole`, `whole-count`); or the buffer has no room for the output of the next byte of the
--- piece (`over-long`, `over-written`, `over-count`). The bytes have no zero, so they are a front of the piece
--- (`QuietLemmas`).
+-- The first `run` bytes of a source that begins with a code were fed quietly (`FeedsQuietly`) to an idle decoder: this
+-- is `FrontFed`. The proofs of `decode_long`, `decode_piece` and `decode_blocks` use these lemmas; that of
+-- `decode_blocks` uses them through `kept_stop` of `KeptQuiet`. Either the bytes that were fed end before a zero or at
+-- the source's end, and are its whole first piece (`whole`, `whole-count`); or the buffer has no room for the output of
+-- the next byte of the piece (`over-long`, `over-written`, `over-count`). The bytes have no zero, so they are a front
+-- of the piece (`QuietLemmas`).
 use Rattle.std.proofs.Common.{◌≡◌, ◌≢◌, ◌+◌, ◌<◌, ◌≤◌, ◌++◌, ℕ, List, ◌∷◌, length, take, drop, get_or, arith, length-append, length-take, length-take-le, refl}
 use Rattle.std.proofs.lemmas.List.{drop_more, get_or-take, take-append-drop}
 use Rattle.cobs.specs.Feed.{Idle, Overlong, Phase}

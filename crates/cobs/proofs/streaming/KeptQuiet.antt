@@ -37,7 +37,8 @@ few_missing =
     (λ code bytes short small. omega (arith, ap missing (last_part-last code bytes short), All-head (λ b. b < 256) code bytes small))
     (λ code bytes more rest small. rw (last_part-more code bytes more) (rest (All-drop (λ b. b < 256) (code - 1) bytes (All-tail (λ b. b < 256) code bytes small))))
 
--- the first `tail` bytes of h are fed quietly to an idle decoder, and it is then the decoder `inner`
+-- the first `tail` bytes of h are fed quietly (`FeedsQuietly`) to an idle decoder; after that, it is the decoder
+-- `inner`
 module _ (h old new : List ℕ) (inner : UnbufferedDecoder) (tail : ℕ) (nonzero : HasNoZero h)
     (fed : FeedsQuietly old Idle (take tail h) new (phase_of inner)) where
   -- as many bytes of the last part are missing as the decoder's number `missing` says

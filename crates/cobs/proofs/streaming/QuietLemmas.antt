@@ -1,9 +1,9 @@
--- The calls that decode whole frames feed the front p of a piece quietly to an idle decoder. Then the buffer begins
--- with the output of p, its other bytes are as they were, and the phase is that after p (`Quiet`; `quiet` is the main
--- lemma, by `piece-all` of `RunLemmas`: no piece has ended in p). From this the file derives the numbers of the decoder
--- (`quiet-within`, `quiet-at`) and the whole buffer (`quiet-written`). If the buffer has no room for the output of the
--- next byte of the piece, the output of the piece is too long, and its first bytes fill the buffer (`quiet-long`,
--- `quiet-full`).
+-- The calls that decode whole frames feed the front p of a piece quietly (`FeedsQuietly`) to an idle decoder. Then the
+-- buffer begins with the output of p, its other bytes are as they were, and the phase is that after p (`Quiet`; `quiet`
+-- is the main lemma, by `piece-all` of `RunLemmas`: no piece has ended in p). From this the file derives the numbers of
+-- the decoder (`quiet-within`, `quiet-at`) and the whole buffer (`quiet-written`). If the buffer has no room for the
+-- output of the next byte of the piece, the output of the piece is too long, and its first bytes fill the buffer
+-- (`quiet-long`, `quiet-full`).
 use Rattle.std.proofs.Common.{◌≡◌, ◌≢◌, ℕ, ◌<◌, ◌≤◌, Bool, cond, eqb, List, [], ◌∷◌, ◌++◌, length, drop, get_or, refl, sym, ap, ◌∙◌, subst, arith, append_assoc, append-nil, take_all, inl, inr, ◌+◌}
 use Rattle.std.proofs.lemmas.List.{drop_all}
 use Rattle.std.proofs.lemmas.Bool.{cases_Bool, cases_lt, ne_eqb, le-leb, lt-leb, leb-false}

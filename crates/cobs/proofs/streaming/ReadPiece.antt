@@ -31,7 +31,7 @@ pub record IsRead (source old : List ℕ) (at : ℕ) (new : List ℕ) (full : Bo
   pub within : at ≤ length source
   -- the output fits the buffer
   pub room : written ≤ length new
-  -- the first n bytes of the source without its leading zeros are fed quietly
+  -- the first n bytes of the source without its leading zeros are fed quietly (`FeedsQuietly`)
   pub front : FrontFed (rest source) old new (Within full left written) n
 
 -- the result and the buffer are those of the source's first piece, as the contract of `decode_piece` states

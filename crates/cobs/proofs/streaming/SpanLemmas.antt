@@ -20,7 +20,7 @@ use Rattle.cobs.proofs.streaming.RunLemmas.{over, phase_with-begun}
 use Rattle.cobs.proofs.streaming.WalkLemmas.{walked-append, fed_walked, length-walked, walked-past, walked-any, IsWalked}
 use Rattle.cobs_bytes.proofs.bytes.ListLemmas.{ones-nonzero}
 
--- if the bytes xs are fed quietly, and then the bytes ys, then xs ++ ys are fed quietly
+-- if the bytes xs are fed quietly (`FeedsQuietly`), and then the bytes ys, then xs ++ ys are fed quietly
 pub FeedsQuietly-append : (xs ys buffer buffer' buffer'' : List ℕ) (phase phase' phase'' : Phase)
     → FeedsQuietly buffer phase xs buffer' phase' → FeedsQuietly buffer' phase' ys buffer'' phase'' → FeedsQuietly buffer phase (xs ++ ys) buffer'' phase''
 FeedsQuietly-append [] ys buffer buffer' buffer'' phase phase' phase'' f g = grind arith

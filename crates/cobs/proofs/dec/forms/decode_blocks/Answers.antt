@@ -33,7 +33,7 @@ module _ (c : After-take_blocks) where
   below : All (λ b. b < 256) h
   below = grind (arith, xored_below)
 
-  -- the bytes that the first call took are fed quietly
+  -- the bytes that the first call took are fed quietly (`FeedsQuietly`)
   first : FeedsQuietly c.args.dest.now Idle (take c.take_blocks.result h) c.take_blocks.new.dest (phase_of c.take_blocks.new.self)
   first = grind (arith, front_xored, take-take, length-take)
 

@@ -41,7 +41,7 @@ module _ (c : After-take_in_place) where
   below : All (λ b. b < 256) h
   below = All-take (λ b. b < 256) c.args.end c.args.buffer.now (bytes_below _ (search rules))
 
-  -- all bytes of h except the last 254 are fed quietly
+  -- all bytes of h except the last 254 are fed quietly (`FeedsQuietly`)
   fed : FeedsQuietly c.args.buffer.now Idle (take tail h) new (phase_of c.take_in_place.new.self)
   fed = grind (arith, take-take)
 

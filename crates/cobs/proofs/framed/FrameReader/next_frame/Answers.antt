@@ -1,7 +1,7 @@
--- `Going` holds before the first read (`Going-start`), and after each read in whose bytes no piece ends (`Going-push`).
--- For each way in which the call can end, `ReadingLemmas` has a lemma whose name begins with `ReadsNext`: a piece ends
--- in the kept bytes, a read fails, the source ends, a piece ends in the bytes of a read, or too many reads were made.
--- No step changes which buffer the decoder was lent (`same_loan`).
+-- `Going` of `ReadingLemmas` holds before the first read (`Going-start`), and after each read in whose bytes no piece
+-- ends (`Going-push`). For each way in which the call can end, `ReadingLemmas` has a lemma whose name begins with
+-- `ReadsNext`: a piece ends in the kept bytes, a read fails, the source ends, a piece ends in the bytes of a read, or
+-- too many reads were made. No step changes which buffer the decoder was lent (`same_loan`).
 use Rattle.std.proofs.Common.{◌≡◌, [], subst, take, Some, arith}
 use Rattle.cobs.proofs.streaming.ReadingLemmas.{Going-start, Going-push, ReadsNext-kept, ReadsNext-failed, ReadsNext-end, ReadsNext-piece, ReadsNext-too_many, front_rest, empty_range, left_of_range}
 use Rattle.cobs.proofs.framed.FrameReader.next_frame.Goals as goal
