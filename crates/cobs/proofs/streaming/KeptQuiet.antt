@@ -49,7 +49,8 @@ module _ (h old new : List ℕ) (inner : UnbufferedDecoder) (tail : ℕ) (nonzer
       let q = quiet front old new (phase_of inner) (All-take (λ b. b ≢ 0) tail h nonzero) fed in
       sym (quiet-at old new front (phase_of inner) q inner refl).1
 
-  -- if all bytes of h except the last 254 are fed, the missing bytes of the open block are among these 254 bytes
+  -- if all bytes of h except the last 254 are fed, the missing bytes of the block that is then open are among these 254
+  -- bytes (if h has at most 254 bytes, no byte is fed, and no block is open)
   pub tail_left : tail ≡ length h - 254 → All (λ b. b < 256) h → inner.missing ≤ length h - tail
   tail_left is small = elim (cases_eq tail 0) [
     -- h has at most 254 bytes, so no byte is fed

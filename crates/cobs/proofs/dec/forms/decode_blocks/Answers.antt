@@ -51,7 +51,7 @@ take_blocks-requires-clause-nonzero c = grind (arith, common_steps, front_xored,
 pub take_blocks-requires-2-clause-nonzero : goal.take_blocks-requires-2-clause-nonzero
 take_blocks-requires-2-clause-nonzero c = grind (arith, common_steps, All-drop, slice_xored, All-take)
 
--- the missing bytes of the open block are among the last 254 bytes
+-- the missing bytes of the block that is open after the first call are among the last 254 bytes
 pub kept_len-len-requires-clause-left : goal.kept_len-len-requires-clause-left
 kept_len-len-requires-clause-left c =
     let at = (goal.at.kept_len-len-requires-clause-left c).After-take_blocks in

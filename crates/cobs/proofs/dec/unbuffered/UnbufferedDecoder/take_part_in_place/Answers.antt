@@ -1,6 +1,6 @@
--- The bytes of one step in place are fed quietly (`FeedsQuietly`). They are a code and the bytes of its block, which
--- were moved back unchanged (`rest_kept`, `block_fed`), a row of 32 blocks without bytes (`row_fed`), or a span that
--- was moved and that `take_moved` takes (`copied-there`).
+-- The bytes of one step in place are fed quietly (`FeedsQuietly`). They are one of the following: a code and the bytes
+-- of its block, which were moved back unchanged (`rest_kept`, `block_fed`); only a code, a case that the tactics prove;
+-- a row of 32 blocks without bytes (`row_fed`); or a span that was moved and that `take_moved` takes (`copied-there`).
 use Rattle.std.proofs.Common.{get_or, ◌≤◌, ◌+◌, ◌≡◌, ◌∷◌, ◌++◌, ◌∙◌, [], ℕ, List, take, drop, arith, length-drop, sym, ap}
 use Rattle.std.proofs.lemmas.List.{length-take-le, drop_more, drop-drop}
 use Rattle.cobs.specs.Fields.Decoders.{phase_of}
