@@ -22,6 +22,7 @@ record IntoLast (p xs : List ℕ) : Type 0 where
 into_last : (p xs : List ℕ) → length xs ≤ missing (last_part p) → IntoLast p xs
 into_last p [] h = grind (arith, append-nil)
 into_last p (x ∷ xs) h =
+    -- x joins the last part, so one byte fewer is missing (`m`); by induction, xs then joins it too (`again`)
     let m = missing-push_more p x (omega arith) in
     let again = into_last (p ++ x ∷ []) xs (omega arith) in
     grind (arith, append_assoc, output-push_more, last_part-push_more)

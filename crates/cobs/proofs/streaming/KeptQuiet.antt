@@ -104,7 +104,8 @@ kept_stop h old new phase k run kept none before inside f over =
     let begins : 0 < length (head front) = rw (head_alone front nonzero) (omega arith) in
     let fed : FrontFed front old new phase run = record { begins = begins; within = omega arith; fed = rw same f } in
     let past = rw (← here) at over in
-    -- `front` has no zero, so it is its own first piece (`head_alone`); its output is too long for the buffer
+    -- `front` has no zero, so it is its own first piece (`head_alone`); its output is too long for the buffer (`long`),
+    -- and its first bytes fill the buffer (`written`)
     let long = rw (head_alone front nonzero) at (over-long fed more other past) in
     let written = rw (head_alone front nonzero) at (over-written fed more other past) in
     grind arith

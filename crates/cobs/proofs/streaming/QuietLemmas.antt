@@ -31,8 +31,8 @@ pub quiet-piece : (xs old new : List ℕ) (phase : Phase) → (0 < length xs →
 quiet-piece xs old new phase first f = elim (cases_lt (length (head xs)) (length xs)) [
   | inl more ↦
       let none = (piece-all xs old new Idle phase f).takes.outcomes [] (DecoderAfter-idle old Idle refl) in
-      -- the bytes before the first zero of xs aren't empty; with this zero they are a piece that has ended (`one`),
-      -- which contradicts `none`
+      -- there are bytes before the first zero of xs (`some`, `cut`); this zero ends a piece, so xs has an outcome
+      -- (`one`), which contradicts `none`
       let some : head xs ≢ [] = λ e. omega (arith, ap length e, head_some xs (omega arith) (first (omega arith))) in
       let cut = head-cut xs more in
       let one = stream_outcomes-front (head xs) (drop (length (head xs) + 1) xs) (length old) some (head_nonzero xs) in

@@ -84,7 +84,8 @@ module _ {source old new : List ℕ} {at left written : ℕ} {full : Bool} (s : 
   pub ended : (at < length source → get_or source at 0 ≡ 0) → {result : Option (PieceEnd × ℕ)} {count : ℕ} → count ≡ min (length source) (at + 1)
       → (left ≡ 0 → result ≡ Some (ends.Message written, count)) → (left ≢ 0 → result ≡ Some (ends.Broken written, count)) → Ended source old new result
   ended stop {result} {count} counted if-whole if-broken =
-      -- so the bytes that are read are the whole piece, and `written` and `left` belong to it (`counts`)
+      -- so the bytes that are read are the whole piece (`w`), `s.n` is its length (`long`), and `written` and `left`
+      -- belong to it (`counts`)
       let at-stop = λ (more : s.n < length (rest source)). here ∙ stop (omega (arith, length-drop (leading_zeros source) source)) in
       let w = whole s.front at-stop in
       let long = whole-count s.front at-stop in

@@ -92,6 +92,7 @@ module _ (c : After-zeros_at-later) where
 -- the first window has a zero
 pub returns-then-zeros-ne0 : goal.returns-then-zeros-ne0
 returns-then-zeros-ne0 c =
+    -- the lemmas `within`, `before` and `stop` apply to the first window (`w`), because its mask isn't 0 (`some`)
     let w : Window c.args.source.now c.zeros_at-zeros.result = record { long = omega arith; is = c.zeros_at-zeros.ensures } in
     let some = c.if-zeros-ne0.true in
     grind (arith, within, before, stop)
@@ -102,6 +103,7 @@ returns-then-later-ne0 c =
     let after = (goal.at.returns-then-later-ne0 c).After-zeros_at-later in
     let w = later after in
     let some = c.if-later-ne0.true in
+    -- the zero is at an index below 32 of the second window
     let lt = within w some in
     record {
       within = omega arith;

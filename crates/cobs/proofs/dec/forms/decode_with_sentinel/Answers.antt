@@ -39,6 +39,7 @@ returns-then-eq c =
     -- the result `Some(0)` says that no byte of the last block is missing; d has the clauses for this result
     let found : c.decode_span.result ≡ Some 0 = grind arith in
     let d = rw found at c.decode_span.ensures in
+    -- `decode_span` gets `len` bytes (`long`); below, as many bytes are written as the output has (`count`)
     let long = length-take-le len source e.within in
     let whole : missing (last_part h) ≡ 0 = sym d.left in
     let is : h ≡ head f = front-head source len s e.within d.nonzero e.stop in
