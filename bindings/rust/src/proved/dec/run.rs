@@ -2,7 +2,7 @@
 //! The loop that decodes the bytes before a sentinel, on targets with SIMD vectors. Each step of the loop decodes a
 //! long block, one or more *rows*, a *span*, or only a code. A row consists of 32 blocks, each with the code 01. A span
 //! consists of up to 253 bytes of a piece. All bytes of a span are copied, even the codes, and then a zero is written
-//! over each code.
+//! over each code. The file also has `take_short` and `take_front`, which decode a few bytes as one span.
 //!
 //! Each step requires that the output so far fits the buffer, and ensures that the output still fits after the step.
 //! The clauses `going` state this.
@@ -165,6 +165,7 @@ impl UnbufferedDecoder {
         if len < 2 || dest.len() < len - 1 {
             return false;
         }
+        // Only the copy is needed, and not the mask of the zeros that `copy_window` returns: no byte is a zero.
         let _zeros = copy_window(&bytes[1..], dest, 0);
         let first = bytes[0] as usize;
         let (code, missing) = write_zeros_by_rows(&mut dest[..len - 1], &bytes[1..], first, 0);

@@ -11,9 +11,9 @@ use crate::proved::error::DecodeError;
 /// next block's code isn't in that span.
 pub(crate) const SPAN_MAX: usize = FULL_BLOCK_BYTES - 1;
 
-/// Writes a zero over each code in `dest`. `dest` contains the bytes of a piece that follow the code `first`. The
-/// caller ensures that no code in `dest` follows a full block, since the output has no zero after a full block. Returns
-/// the code of the last block, and how many bytes of this block are missing.
+/// Writes a zero over each code in `dest`. `dest` contains the bytes of a piece that follow the code `first`. If no
+/// code in `dest` follows a full block, `dest` then contains the output of these bytes. (The output has no zero after a
+/// full block.) Returns the code of the last block, and how many bytes of this block are missing.
 // Compilers turn this recursion into a loop that advances the address of the remaining bytes. A loop over an index
 // would add the index to an address before each load. Since the load of each code waits for the preceding code, this
 // addition would cost a cycle per code.

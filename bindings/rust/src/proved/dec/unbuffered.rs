@@ -201,7 +201,8 @@ impl UnbufferedDecoder {
             if self.is_idle() {
                 // If one of the first 66 bytes is a zero, `take_front` decodes the bytes before the first zero, and
                 // then this zero ends the piece. If none of them is a zero, `take_front` decodes all bytes, but only if
-                // there are fewer than 32 bytes. For 32 bytes or more, a search with memchr is faster.
+                // there are fewer than 32 bytes. For 32 bytes or more, a search with memchr is faster. `take_front`
+                // decodes nothing if there are fewer than 2 bytes to decode, or if `dest` has no room for their output.
                 let front = front_len(bytes);
                 let is_all = front == bytes.len();
                 if (!is_all || front < WINDOW) && self.take_front(dest, &bytes[..front]) {
