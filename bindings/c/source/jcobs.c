@@ -628,7 +628,7 @@ static enum jcobs_kind jcobs_kind_by_blocks(const unsigned char *bytes, size_t l
     return JCOBS_NOT_A_FRAME;
 }
 
-/* Returns the kind of the bytes: a frame that encoders write, another frame, or no frame.
+/* Returns whether the bytes are a frame that encoders write, another frame, or no frame.
  * Proved, by the contract in kind.rt: the result is NOT_A_FRAME if and only if the bytes aren't a frame, and
  * CANONICAL if and only if they are a frame that encoders write. */
 unsigned int jcobs_frame_kind(const void *bytes, size_t len)
@@ -833,7 +833,8 @@ static JCOBS_RARE jcobs_answer jcobs_decoder_feed_zero(jcobs_decoder *decoder, u
     return jcobs_decoder_answer(decoder, piece, 1, buffer_size);
 }
 
-/* Decodes the next byte of the stream. The contract is the same as for a jcobs_decoder_push of this byte.
+/* Decodes the next byte of the stream. The contract is the same as for a call of jcobs_decoder_push with this
+ * byte.
  * Proved, by the contract in decoder.rt: the result, the state and the buffer are those that the definition of the
  * stream gives after these bytes, however the stream is divided among calls. In every state consumed is at most
  * the number of bytes passed, and length is at most buffer_size. */
@@ -963,7 +964,7 @@ static jcobs_answer jcobs_encoder_feed_byte(jcobs_encoder *encoder, unsigned cha
     return jcobs_ok_answer(1, jcobs_encoder_append_byte(encoder, buffer, byte));
 }
 
-/* Encodes the next byte of a message. The contract is the same as for a jcobs_encoder_push of this byte.
+/* Encodes the next byte of a message. The contract is the same as for a call of jcobs_encoder_push with this byte.
  * Proved, by the contract in encoder.rt: the status is OK if and only if the frame of the message so far,
  * including these bytes, fits. If the status isn't OK, the state and the buffer are as they were. In every state
  * consumed is at most the number of bytes passed, and length is at most buffer_size. */
@@ -1010,7 +1011,8 @@ static jcobs_frame_length jcobs_encoder_close(jcobs_encoder *encoder, unsigned c
  * as they were. */
 jcobs_answer jcobs_encoder_finish(jcobs_encoder *encoder, void *buffer, size_t buffer_size)
 {
-    /* No frame fits an empty buffer. Without this test, a corrupt state could end in a frame of 0 bytes. */
+    /* No frame fits an empty buffer. Without this test, the call could return a frame of 0 bytes if the state is
+     * corrupt. */
     if (buffer_size == 0) {
         return jcobs_too_small_answer();
     }

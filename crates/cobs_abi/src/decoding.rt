@@ -62,8 +62,8 @@ pub fn result_of(
     }
 }
 
-/// Decodes bytes of a stream of frames for this sentinel, and stops after the sentinel that ends the first piece. If no
-/// piece ends, decodes all the bytes.
+/// Decodes bytes of a stream whose frames were encoded with this sentinel, and stops after the sentinel that ends the
+/// first piece. If no piece ends, decodes all the bytes.
 #[inline(always)]
 pub fn decode_each(
     decoder: &mut UnbufferedDecoder,

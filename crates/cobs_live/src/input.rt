@@ -23,7 +23,7 @@ pub enum Came {
 /// An input whose reads take the output as an extra argument.
 ///
 /// Contracts describe an input by the relation `step`. It relates the state of the input before a read, the read
-/// itself, and the state after the read. The record of the read includes the contents of the output when the read
+/// itself, and the state after the read. The read is recorded with the contents that the output had when the read
 /// began. So a theorem about any input can say which text had been written when each read began.
 pub trait LiveInput<W: Write + Drop> {
     /// The bytes that later reads will return, if these bytes are known.

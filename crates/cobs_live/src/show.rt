@@ -33,15 +33,15 @@ use std::io::{BufWriter, ErrorKind, Write};
 use std::rt::Clock;
 
 /// The first search for the zero that ends a short frame looks at this many bytes, which fill one vector. The second
-/// search looks at [`NEAR`] bytes.
+/// search looks at up to [`NEAR`] bytes.
 const NEAREST: usize = 16;
 
 /// The second search for the zero that ends a short frame looks at up to this many bytes. If none of them is a zero,
 /// all remaining bytes of the chunk are passed to the decoder.
 const NEAR: usize = 64;
 
-/// The greatest number of bytes of one read: 64 KiB. If a read returns fewer bytes, the pieces that end in them are
-/// shown before more bytes are read.
+/// The greatest number of bytes of one read: 64 KiB. Even if a read returns fewer bytes, the pieces that end in them
+/// are shown before more bytes are read.
 pub const CHUNK_LEN: usize = 65_536;
 
 /// Shows each piece of the input when the piece's sentinel arrives. At the end of the input, shows `unfinished` if a
@@ -54,8 +54,8 @@ pub const CHUNK_LEN: usize = 65_536;
 /// only before the first read: for a message of the greatest length, and for a chunk of the input.
 ///
 /// If `counting.at_end` is set, the counts are written to `errors` at the end, even after a fault. `counting.every` is
-/// an interval in milliseconds, or `None`. With an interval, the counts so far are also written while bytes arrive, at
-/// most once per interval. A failure to write the counts isn't a fault.
+/// an interval in milliseconds, or `None`. If it is an interval, the counts so far are also written while bytes arrive,
+/// at most once per interval. A failure to write the counts isn't a fault.
 ///
 /// # Errors
 /// - `ReadFailed`: a read failed, for example because a serial line was unplugged. All pieces that had ended before
@@ -146,10 +146,10 @@ impl<'a> Watch<'a> {
 
     /// Reads once into `chunk`, shows each piece that ends in the bytes of this read, and flushes the output. Returns
     /// whether the input continues. At the end of the input, after a failed read and after a hang-up, shows
-    /// `unfinished` if a piece has begun but not ended. After a hang-up, then shows `hung up`.
+    /// `unfinished` if a piece has begun but not ended. Then, if the line hung up, shows `hung up`.
     ///
-    /// Nothing is written before the read. The output has been flushed when the read begins (`flushed`), so all pieces
-    /// that have ended by then have been shown. An interrupted read is tried again.
+    /// Nothing is written before the read. The output has been flushed when the read begins (clause `flushed`), so all
+    /// pieces that have ended by then have been shown. An interrupted read is tried again.
     ///
     /// # Errors
     /// Returns `ReadFailed` if the read failed. Then no piece has ended in this call. Returns `WriteFailed` if a write
@@ -255,8 +255,8 @@ impl<'a> Watch<'a> {
     }
 }
 
-/// Reads once into the chunk, and tries again if the read was interrupted. Every read of [`run_show`] is made here,
-/// after the output has been flushed.
+/// Reads once into the chunk, and tries again if the read was interrupted. Every read of [`run_show`] is made by this
+/// function, after the output has been flushed.
 fn read_chunk<S: LiveInput<W>, W: Write + Drop>(
     input: &mut S,
     output: &BufWriter<W>,
@@ -319,7 +319,7 @@ fn behind_first<'a>(skipping: &mut bool, bytes: &'a [u8]) -> &'a [u8]
     &[]
 }
 
-/// Shows the pieces that end in the bytes, and counts them.
+/// Shows and counts the pieces that end in the bytes.
 fn show_bytes<W: Write>(
     decoder: &mut UnbufferedDecoder,
     message: &mut [u8],

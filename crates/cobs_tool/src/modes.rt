@@ -38,8 +38,8 @@ pub fn run_mode<R: Read, W: Write>(
 /// Prints the encoded frame of the input, and the zero after it, with two hexadecimal digits per byte.
 ///
 /// The whole input is one message. The input is read to its end, and the whole line is made, before any byte of the
-/// line is written. So after every fault except `WriteFailed` nothing has been written. After a `WriteFailed`, part of
-/// the line may have been written. Whether an interrupted write is tried again isn't specified.
+/// line is written. So nothing has been written if the fault isn't `WriteFailed`. If the fault is `WriteFailed`, part
+/// of the line may have been written. Whether an interrupted write is tried again isn't specified.
 ///
 /// # Errors
 /// - `ReadFailed`: a read failed. An interrupted read is a failed read.
