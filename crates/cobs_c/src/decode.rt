@@ -90,7 +90,7 @@ fn decode_long(source: &[u8], message: &mut [u8], consumed: &mut usize) -> (u32,
     }
 }
 
-/// Decodes the first frame of the source to the front of `message`.
+/// Decodes the first frame of the source, and writes the message to the front of `message`.
 #[unsafe(no_mangle)]
 pub extern "C" fn jcobs_decode(source: &[u8], message: &mut [u8]) -> Answer
     ensures decodes { Decodes source.now message.old result message.new }
@@ -98,7 +98,8 @@ pub extern "C" fn jcobs_decode(source: &[u8], message: &mut [u8]) -> Answer
     law_1(); // A frame reads as its output
     law_12(); // The first and the last piece of a stream
     let room = message.len();
-    // The source of a short frame consists of the frame and perhaps a zero, so all its bytes are consumed.
+    // If `decode_short` decodes the source, the source consists of one frame and perhaps a zero, so all its bytes are
+    // consumed.
     match decode_short(source, message) {
         Some(Ok(report)) => return done(source.len(), report.frame_size()),
         Some(Err(error)) => return result_by(source.len(), room, Err(error)),

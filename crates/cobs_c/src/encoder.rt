@@ -68,7 +68,7 @@ pub extern "C" fn jcobs_encoder_feed(
     encode_byte(encoder, buffer, byte)
 }
 
-/// Ends the message, as `jcobs_encoder_finish` does, but writes the frame that is encoded with this sentinel.
+/// Ends the message, as `jcobs_encoder_finish` does, but the frame is encoded with this sentinel.
 #[unsafe(no_mangle)]
 pub extern "C" fn jcobs_encoder_finish_with_sentinel(
     encoder: &mut UnbufferedEncoder,

@@ -125,7 +125,7 @@ impl<'a, C: Clock + Drop> Timer<'a, C> {
     }
 }
 
-/// Returns a duration in whole milliseconds, at most `u64::MAX`.
+/// Returns the duration in whole milliseconds, or `u64::MAX` if that number is greater.
 fn millis_of(duration: Duration) -> u64 {
     u64::try_from(duration.as_millis()).unwrap_or(u64::MAX)
 }
@@ -162,7 +162,7 @@ impl Times {
         self.next = timer.read(self.last);
     }
 
-    /// Sets `last` to `next`, after a piece that ended at the time `next`.
+    /// Sets `last` to `next`. This function is called after each piece, because the piece ended at the time `next`.
     pub fn advance(&mut self)
         ensures last { self.new.last ≡ self.old.next }
         ensures next { self.new.next ≡ self.old.next }
@@ -218,7 +218,7 @@ impl Times {
         }
     }
 
-    /// Writes milliseconds as seconds with three decimals.
+    /// Writes a time in milliseconds as seconds with three decimals.
     fn write_seconds<W: Write>(output: &mut W, time: u64) -> io::Result<()>
         ensures written { OnOk result
             (Appends (W.contents output.old) (W.contents output.new) (seconds time)) }

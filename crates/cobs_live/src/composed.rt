@@ -179,8 +179,8 @@ impl Composed {
 
     /// Adds a message with this number, but without a colour or a time, if the style is `Json`. For every other style,
     /// returns `Full`, and the caller writes the text directly. The text has no time, so the clause `put` is true for
-    /// all `times`. [`compose`](Composed::compose) has already tested the style. The style is matched again, because
-    /// the clause `put` is stated for every style.
+    /// all `times`. [`compose`](Composed::compose) has already tested the style. `put_message` matches the style again,
+    /// because the clause `put` is stated for every style.
     #[inline(always)]
     fn put_message(&mut self, style: Style, number: u64, piece: &Sight<'_>) -> Result<(), Full>
         requires message { piece.now.kind ≡ Message }

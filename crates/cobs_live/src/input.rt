@@ -29,7 +29,7 @@ pub trait LiveInput<W: Write + Drop> {
     /// The bytes that later reads will return, if these bytes are known.
     ghost remaining: { Self → Option (List ℕ) };
 
-    /// Whether this read may change the input from the first state to the second.
+    /// `step before read after` holds if the read may change the input from the state `before` to the state `after`.
     ghost step: { Self → ReadEvent (Option ℕ) → Self → Type 0 };
 
     /// Reads bytes into `chunk` once, as `Read::read` does, or returns `HungUp` if the line hung up.
@@ -49,7 +49,7 @@ pub trait LiveLines<W: Write + Drop> {
     /// The bytes that later reads will return, if these bytes are known.
     ghost remaining: { Self → Option (List ℕ) };
 
-    /// Whether this read may change the input from the first state to the second.
+    /// `step before read after` holds if the read may change the input from the state `before` to the state `after`.
     ghost step: { Self → ReadEvent ℕ → Self → Type 0 };
 
     /// Reads up to and including the next newline, or to the end of the input, and appends the bytes to `line`, as

@@ -37,9 +37,9 @@ impl<'a, C: Clock + Drop, F: Drop> Port<'a, C, F> {
         }
     }
 
-    /// Returns whether the port has to try the call again. If the call would have blocked, pauses and returns true. If
-    /// the call failed for another reason, stores the system's error number in `reason`. The error number of an
-    /// interruption isn't stored, because the port's caller tries again after an interruption.
+    /// Returns whether the port has to try a call with the result `done` again. If the call would have blocked, pauses
+    /// and returns true. If the call failed for another reason, stores the system's error number in `reason`. The error
+    /// number of an interruption isn't stored, because the port's caller tries again after an interruption.
     fn tries_again(&self, done: &io::Result<usize>) -> bool
         ensures failed { IsOk done.now → result ≡ false }
     {
@@ -57,7 +57,7 @@ impl<'a, C: Clock + Drop, F: Drop> Port<'a, C, F> {
     }
 }
 
-// The loops of this file limit the number of tries, because every function is proved to end.
+// The loops in this file limit the number of tries, because every function is proved to end.
 impl<C: Clock + Drop, R: Read + Drop> Read for Port<'_, C, R> {
     ghost use Rattle.cobs_live.specs.Ports.{inner_of};
 

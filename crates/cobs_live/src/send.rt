@@ -34,9 +34,9 @@ pub struct Settings {
 /// Otherwise the message is the line without its newline. If `settings.checksum` is set, the checksum follows the
 /// message in the frame.
 ///
-/// Returns whether every line was sent. If `settings.hex` is set, a line that isn't hexadecimal digits is skipped, and
-/// its number, counted from 1, is reported on `errors`. An interrupted read is tried again. At any time, memory is
-/// allocated for at most one line, its message and its frame.
+/// Returns whether every line was sent. If `settings.hex` is set, a line that can't be read as hexadecimal digits is
+/// skipped, and its number, counted from 1, is reported on `errors`. An interrupted read is tried again. At any time,
+/// memory is allocated for at most one line, its message and its frame.
 ///
 /// # Errors
 /// - `ReadFailed`: a read failed, or memory ran out while a line was read. All earlier lines were sent or skipped.
@@ -92,7 +92,7 @@ fn without_newline(line: &[u8]) -> &[u8]
     }
 }
 
-/// Sends the message of a line's text. Returns false if the text should consist of hexadecimal digits but doesn't.
+/// Sends the message of a line's text. Returns false if the text should be read as hexadecimal digits but can't be.
 fn send_text<W: Write + Drop>(
     alloc: Global,
     settings: &Settings,

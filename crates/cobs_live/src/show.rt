@@ -361,7 +361,7 @@ fn show_bytes<W: Write>(
 
 /// Returns the bytes to pass to the decoder in one call: the bytes up to and including the first zero if this zero is
 /// among the first [`NEAR`] bytes, and otherwise all bytes. So the decoder gets a short frame without the bytes after
-/// it, and uses the code that is fastest for a short frame.
+/// the frame, and decodes it with the code that is fastest for short frames.
 #[inline(always)]
 fn front(bytes: &[u8]) -> &[u8]
     requires some { 0 < length bytes.now }

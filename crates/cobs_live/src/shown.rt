@@ -236,7 +236,7 @@ pub fn show_piece<W: Write>(
     write_line(output, view, number, times, piece)
 }
 
-/// Writes the time that precedes the line of a piece, or nothing if the style has no such time.
+/// Writes the time before the line of a piece, or nothing if lines of this style have no time before them.
 fn write_time<W: Write>(output: &mut W, view: &View, times: &Times) -> io::Result<()>
     ensures written { OnOk result (Appends (W.contents output.old) (W.contents output.new)
         (in_front view.now.style view.now.stamp times.now)) }

@@ -43,8 +43,9 @@ pub fn report_of(alloc: Global, stream: &[u8]) -> Result<String, AllocError>
                 }
                 return Ok(text);
             }
-            // A read from memory never fails. A call fails after 65,536 reads. But each read returns 64 bytes if at
-            // least 64 bytes are left, so a stream of at most 1 MiB ends after at most 16,385 reads.
+            // A read from memory never fails. A call of `next_frame` also fails after 65,536 reads. But each read
+            // returns 64 bytes if at least 64 bytes are left, so a stream of at most 1 MiB ends after at most 16,385
+            // reads.
             Err(_) => unreachable!(),
         }
     }

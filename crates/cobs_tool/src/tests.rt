@@ -253,8 +253,8 @@ fn each_write_and_each_flush_may_fail(rt: HostRuntime) {
 }
 
 /// Checks the greatest length of the input. `zeros` is one byte longer than this length. The mode must accept `zeros`
-/// without the last byte, and write `count` bytes. It must reject `zeros` with the last byte, and it must reject an
-/// input that never ends.
+/// without the last byte, and write `count` bytes. It must reject `zeros` itself, and it must reject an input that
+/// never ends.
 fn check_limit(rt: &impl Abort, alloc: Global, mode: &Mode, zeros: &[u8], count: usize) {
     let mut output = Vec::new(alloc);
     let mut longest = zeros.split_last().map_or(zeros, |(_, front)| front);

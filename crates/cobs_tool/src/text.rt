@@ -17,7 +17,7 @@ pub fn fault_line(fault: &ToolFault) -> &'static str
     }
 }
 
-/// Returns a line with the bytes: two lower-case hexadecimal digits for each byte, a space between each two bytes, and
+/// Returns a line with the bytes: two lower-case hexadecimal digits for each byte, with a space between the bytes, and
 /// a newline at the end. If there are no bytes, the line is only the newline.
 pub fn hex_line(alloc: Global, bytes: &[u8]) -> Result<String, AllocError>
     ensures digits { IfOk result (λ line. string_bytes line ≡ hex_line bytes.now) }

@@ -492,7 +492,7 @@ static JCOBS_INLINE jcobs_piece jcobs_decode_piece(const unsigned char *source, 
     return jcobs_ended_piece(written, missing, at);
 }
 
-/* Decodes the first frame of the source to the front of `message`.
+/* Decodes the first frame of the source, and writes the message to the front of `message`.
  * Proved, by the contract in decode.rt: the result and the written bytes are those that the definition of COBS
  * gives for the source and message_size, and all other bytes of the buffer are as they were. A buffer as long as
  * the source is never too small. */
@@ -765,8 +765,8 @@ static JCOBS_INLINE jcobs_piece jcobs_decoder_take_bytes(jcobs_decoder *decoder,
     return jcobs_make_piece(JCOBS_END_NONE, 0, 0);
 }
 
-/* Returns the number of decoded bytes of the open piece that are in the buffer. The buffer has buffer_size bytes.
- * Even if the decoder's state is corrupt, the number is at most buffer_size. */
+/* Returns how many decoded bytes of the open piece are in the buffer. The buffer has buffer_size bytes. Even if
+ * the decoder's state is corrupt, the number is at most buffer_size. */
 static JCOBS_INLINE size_t jcobs_decoder_length(const jcobs_decoder *decoder, size_t buffer_size)
 {
     if (decoder->too_long != 0) {
@@ -775,9 +775,9 @@ static JCOBS_INLINE size_t jcobs_decoder_length(const jcobs_decoder *decoder, si
     return jcobs_min(decoder->written, buffer_size);
 }
 
-/* Returns the result of a call with `len` bytes of the stream and a buffer of buffer_size bytes. If a piece has
- * ended in these bytes, `piece` says how the piece ended, and how many bytes there are up to and including the
- * zero that ended it. */
+/* Returns the result of a call that was passed `len` bytes of the stream and a buffer of buffer_size bytes. If a
+ * piece has ended in these bytes, `piece` says how the piece ended, and how many bytes there are up to and
+ * including the zero that ended it. */
 static JCOBS_INLINE jcobs_answer jcobs_decoder_answer(const jcobs_decoder *decoder, jcobs_piece piece, size_t len,
                                                       size_t buffer_size)
 {
