@@ -1,4 +1,4 @@
-//! A source of a stream. Its bytes are in memory.
+//! A source that reads a stream from memory.
 use cobs::FrameSource;
 use std::io::Read;
 

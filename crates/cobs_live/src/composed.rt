@@ -113,7 +113,7 @@ impl Composed {
         }
     }
 
-    /// Adds the text of a piece for a view with the style `Hex`, under the conditions of [`keep`](Composed::keep).
+    /// Adds the text of a piece for a view with the style `Hex`, under the same conditions as [`keep`](Composed::keep).
     #[inline(always)]
     fn keep_hex(&mut self, view: &View, piece: &Sight<'_>) -> bool
         requires style { view.now.style ≡ Hex }
@@ -133,7 +133,7 @@ impl Composed {
         true
     }
 
-    /// Adds the text of a piece for a view with the style `Raw`, under the conditions of [`keep`](Composed::keep).
+    /// Adds the text of a piece for a view with the style `Raw`, under the same conditions as [`keep`](Composed::keep).
     #[inline(always)]
     fn keep_raw(&mut self, view: &View, piece: &Sight<'_>) -> bool
         requires style { view.now.style ≡ Raw }

@@ -172,8 +172,8 @@ impl<C: Clock + Drop, O: Opener<R> + Drop, R: Read + Drop, W: Write + Drop> Live
     }
 }
 
-/// Returns whether this result of a read into a chunk that isn't empty means that the line hung up. The line hung up if
-/// the read returned no bytes, or if it failed with an error other than "interrupted" or "would block".
+/// Returns whether a read with this result means that the line hung up. The chunk of the read isn't empty. The line
+/// hung up if the read returned no bytes, or if it failed with an error other than "interrupted" or "would block".
 fn is_hang_up(given: &io::Result<usize>) -> bool {
     match given {
         Ok(count) => *count == 0,

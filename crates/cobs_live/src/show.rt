@@ -153,7 +153,7 @@ impl<'a> Watch<'a> {
     ///
     /// # Errors
     /// Returns `ReadFailed` if the read failed. Then no piece has ended in this call. Returns `WriteFailed` if a write
-    /// or a flush failed, or `OutputClosed` if it failed because nobody reads the output any more.
+    /// or a flush failed, but `OutputClosed` if it failed because nobody reads the output any more.
     pub fn show_next<C: Clock + Drop, S: LiveInput<W>, W: Write + Drop>(
         &mut self,
         timer: &Timer<'_, C>,

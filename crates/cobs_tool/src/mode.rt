@@ -5,10 +5,10 @@ ghost use Rattle.cobs_tool.specs.Words.{texts};
 /// The mode of the program.
 #[derive(Debug, PartialEq, Eq, Drop)]
 pub enum Mode {
-    /// Print a message's frame, and the zero after it, as hexadecimal digits.
+    /// Print a message's frame, followed by a zero, as hexadecimal digits.
     Show,
 
-    /// Write a message's frame and the zero after it.
+    /// Write a message's frame, followed by a zero.
     Encode,
 
     /// Print the outcome of each piece of a stream.

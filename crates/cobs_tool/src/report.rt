@@ -64,7 +64,7 @@ fn push_message(alloc: Global, report: &mut String, message: &[u8]) -> Result<()
     writeln!(report, "message {len} {digits}")
 }
 
-/// Appends the line of a broken piece, which decodes to `count` bytes.
+/// Appends the line of a broken piece that decodes to `count` bytes.
 fn push_broken(report: &mut String, count: usize) -> Result<(), AllocError>
     ensures { OnOk result (string_bytes report.new
         ≡ string_bytes report.old ++ outcome_line (Broken count)) }

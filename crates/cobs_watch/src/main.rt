@@ -50,8 +50,8 @@ const OUTPUT_LEN: usize = 131_072;
 /// The system's error number of the last read or write that failed, if there is one.
 type Reason = Cell<Option<i32>>;
 
-/// The reasons why `show` failed, as the system's error numbers. The line on standard error has the system's text for
-/// such a number.
+/// The reasons why `show` failed, as the system's error numbers. The line that the program writes to standard error
+/// contains the system's text for such a number.
 #[derive(Drop)]
 struct Reasons {
     /// The last error of the input or of standard output.

@@ -238,7 +238,7 @@ fn color_of(alloc: Global, matches: &ArgMatches<'_>, auto_color: bool) -> Result
 /// Returns whether the file is opened again after a hang-up.
 ///
 /// # Errors
-/// Returns an error for the path `-`, because standard input can't be opened again.
+/// Returns an error if `--reconnect` is given with the path `-`, because standard input can't be opened again.
 fn reconnect_of(alloc: Global, matches: &ArgMatches<'_>) -> Result<bool, Error> {
     if matches.get_flag("reconnect") && matches.get_str("path") == Some(STDIN) {
         return wrong(
