@@ -200,7 +200,7 @@ pub fn with_sum(alloc: Global, checksum: &Checksum, message: &[u8]) -> Result<Ve
 fn ended_frame(alloc: Global, sentinel: u8, message: &[u8]) -> Result<Vec<u8>, AllocError>
     ensures frame { IfOk result (λ bytes. IsSent sentinel message.now bytes.items) }
 {
-    // For a longer message, the length of the frame could be too great for a `usize`.
+    // If a message has more than `usize::MAX / 2` bytes, the length of its frame could be too great for a `usize`.
     if usize::MAX / 2 < message.len() {
         return Err(AllocError);
     }

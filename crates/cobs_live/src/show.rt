@@ -53,9 +53,9 @@ pub const CHUNK_LEN: usize = 65_536;
 /// output. So before the program waits for more bytes, it has written all pieces that have ended. Memory is allocated
 /// only before the first read: for a message of the greatest length, and for a chunk of the input.
 ///
-/// If `counting.at_end` is set, the counts are written to `errors` at the end, even after a fault. `counting.every` is
-/// an interval in milliseconds, or `None`. If it is an interval, the counts so far are also written while bytes arrive,
-/// at most once per interval. A failure to write the counts isn't a fault.
+/// If `counting.at_end` is set, the counts of pieces and bytes are written to `errors` at the end, even after a fault.
+/// `counting.every` is an interval in milliseconds, or `None`. If it is an interval, the counts so far are also written
+/// while bytes arrive, at most once per interval. A failure to write the counts isn't a fault.
 ///
 /// # Errors
 /// - `ReadFailed`: a read failed, for example because a serial line was unplugged. All pieces that had ended before
@@ -168,8 +168,8 @@ impl<'a> Watch<'a> {
             (S.remaining input.old) before (W.contents (writer_inner output.old)) self.old
             → ShowsNext settings result from (S.remaining input.new) before
             (W.contents (writer_inner output.new)) self.new }
-        // If every ended piece had been shown when each earlier read began, this is also true for the read of this
-        // call.
+        // If every ended piece had been shown when each earlier read began, this is also true when the read of this
+        // call begins.
         ensures live { (settings : Settings) (start : S) (from before : Option (List ℕ))
             → IsLiveSoFar S.step start input.old settings from (S.remaining input.old) before
             (W.contents (writer_inner output.old)) self.old
