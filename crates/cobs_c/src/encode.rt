@@ -41,8 +41,8 @@ fn encode_long(message: &[u8], frame: &mut [u8]) -> (usize, usize)
     }
 }
 
-/// Writes the frame of the message to the front of the buffer `frame`, if the message's frame fits. Otherwise nothing
-/// is written.
+/// Encodes the message, and writes its frame to the front of the buffer `frame`, if it fits. Otherwise nothing is
+/// written.
 #[unsafe(no_mangle)]
 #[inline(always)]
 pub extern "C" fn jcobs_encode(message: &[u8], frame: &mut [u8]) -> Answer
@@ -53,7 +53,7 @@ pub extern "C" fn jcobs_encode(message: &[u8], frame: &mut [u8]) -> Answer
     // The frame of a message of up to 254 bytes fits if `frame` is longer than the message. Such a message is encoded
     // here, without a call. A message of fewer than `FEW` bytes has its own branch, so that compilers generate code for
     // it without the cases of longer messages. The message's length is computed as `length - 1`, so that no register
-    // has to keep it. All this makes the encoding of short messages faster.
+    // has to keep the length. All this makes encoding a short message faster.
     if len < frame.len() {
         if len < FEW {
             let length = encode(message, frame);
@@ -73,7 +73,7 @@ pub extern "C" fn jcobs_encode(message: &[u8], frame: &mut [u8]) -> Answer
     }
 }
 
-/// Writes the frame of the message for this sentinel to the front of the buffer `frame`, if the message's frame fits.
+/// Encodes the message with this sentinel, and writes the frame to the front of the buffer `frame`, if it fits.
 /// Otherwise nothing is written.
 #[unsafe(no_mangle)]
 pub extern "C" fn jcobs_encode_with_sentinel(
@@ -108,8 +108,8 @@ pub extern "C" fn jcobs_encode_terminated(message: &[u8], frame: &mut [u8]) -> A
     done(returned.consumed, returned.length + 1)
 }
 
-/// Writes the frame of the message for this sentinel, followed by the sentinel, to the front of the buffer `frame`, if
-/// the frame and the sentinel fit. Otherwise nothing is written.
+/// Encodes the message with this sentinel, and writes the frame, followed by the sentinel, to the front of the buffer
+/// `frame`, if the frame and the sentinel fit. Otherwise nothing is written.
 #[unsafe(no_mangle)]
 pub extern "C" fn jcobs_encode_terminated_with_sentinel(
     message: &[u8],

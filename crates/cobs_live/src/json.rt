@@ -12,7 +12,7 @@ use std::io::{self, Write};
 use std::str;
 
 /// Writes a piece, with this number, as a JSON object on its own line. `stamp` says whether the object has a member
-/// `time`, and which time that is.
+/// `time`, and which time this member has.
 pub fn write_json<W: Write>(
     output: &mut W,
     number: u64,
@@ -57,7 +57,8 @@ fn write_kind<W: Write>(output: &mut W, piece: &Sight<'_>) -> io::Result<()>
     }
 }
 
-/// Writes the member `hex` with the decoded bytes of a broken or too long piece. Without decoded bytes, writes nothing.
+/// Writes the member `hex` with the decoded bytes of a broken or too long piece. If there are no decoded bytes, writes
+/// nothing.
 fn write_partial<W: Write>(output: &mut W, bytes: &[u8]) -> io::Result<()>
     ensures written { OnOk result
         (Appends (W.contents output.old) (W.contents output.new) (json_partial bytes.now)) }
