@@ -1,8 +1,8 @@
 // Made by bindings/rust/translate.py from `crates/cobs/src/error.rt`: change that file, and run it again.
 //! Errors, and the report about a decoded message.
 
-/// The error of an encoder: the frame is longer than the slice to which it should be written, or the encoder's state
-/// isn't possible in a slice of this length.
+/// The error of an encoder. Either the frame is longer than the slice to which it should be written, or the encoder's
+/// state isn't possible in a slice of that length.
 ///
 /// ```
 /// use jcobs::DestBufTooSmallError;
@@ -69,7 +69,7 @@ impl core::error::Error for DecodeError {}
 
 /// The error of a `push` to a streaming decoder, with the number of bytes that were consumed.
 ///
-/// The decoder has consumed the first `parsed_size` of the pushed bytes. To continue, the caller pushes the bytes that
+/// The decoder has consumed the first `parsed_size` bytes of the push. To continue, the caller pushes the bytes that
 /// weren't consumed.
 ///
 /// ```
@@ -125,7 +125,7 @@ pub struct DecodeReport {
 
 impl DecodeReport {
     /// Returns how many bytes of the source were consumed. The documentation of the call that made the report says
-    /// whether leading sentinels, and the sentinel after the frame, are counted.
+    /// whether this number includes leading sentinels and the sentinel after the frame.
     ///
     /// ```
     /// use jcobs::decode;

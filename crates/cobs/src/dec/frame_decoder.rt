@@ -78,8 +78,8 @@ pub trait FrameDecoder {
     ghost loan: { Self → ℕ };
 
     /// Decodes the next byte of the stream. The results and errors are those of
-    /// [`CobsDecoder::feed`](crate::CobsDecoder::feed). As long as the output of the piece fits the buffer, the fed
-    /// byte changes the decoder's state in the same way as it changes a [`DecoderState`](crate::DecoderState).
+    /// [`CobsDecoder::feed`](crate::CobsDecoder::feed). As long as the output of the piece fits the buffer, the byte
+    /// changes the decoder's state in the same way as it would change a [`DecoderState`](crate::DecoderState).
     ///
     /// ```
     /// let mut decoder = CobsDecoderHeapless::<1>::new();
@@ -158,7 +158,7 @@ pub trait FrameDecoder {
 /// assert_eq!(rt; decoder.dest(), [9, 8, 0].as_slice());
 /// ```
 pub trait WriteBuffer: FrameDecoder {
-    /// The same decoder, except that its buffer has these bytes.
+    /// The same decoder, except that its buffer has the given bytes.
     ghost with_bytes: { Self → List ℕ → Self };
 
     /// Returns the whole buffer, for writing. The buffer keeps the bytes that the caller writes to it.

@@ -38,8 +38,8 @@ impl UnbufferedDecoder {
     /// blocks, each with the code 01, a step decodes only the first row. Second, the output always fits the buffer.
     ///
     /// The output must not overwrite a byte that isn't decoded yet. So the caller ensures that the output so far is at
-    /// most `read` bytes long. If the next code will add the zero of a joint, the caller ensures that the output so far
-    /// is less than `read` bytes long.
+    /// most `read` bytes long. If the next code will add a zero to the output, the caller ensures that the output so
+    /// far is less than `read` bytes long.
     #[inline(always)]
     fn take_part_in_place(&mut self, buffer: &mut [u8], read: usize, end: usize) -> usize
         requires going { self.old.too_long ≡ 0 }
@@ -106,8 +106,8 @@ impl UnbufferedDecoder {
     }
 }
 
-/// Decodes the first `end` bytes of the buffer as one frame, in the buffer itself, and returns the message's length in
-/// bytes. The caller ensures that none of these bytes is a zero.
+/// Decodes the first `end` bytes of the buffer in place, as one frame, and returns the message's length in bytes. The
+/// caller ensures that none of these bytes is a zero.
 fn decode_blocks_in_place(buffer: &mut [u8], end: usize) -> Result<usize, DecodeError>
     requires within { end ≤ length buffer.old }
     requires nonzero { HasNoZero (take end buffer.old) }
@@ -125,9 +125,9 @@ fn decode_blocks_in_place(buffer: &mut [u8], end: usize) -> Result<usize, Decode
     message_len(progress.written, whole)
 }
 
-/// Decodes the first `len` bytes of the buffer, in the buffer itself, if `len` is from 2 to 65 and these bytes are a
-/// frame. Returns whether it decoded the bytes; if it returns false, the buffer is as it was. The function copies the
-/// bytes before it decodes them, and restores them from the copy if the frame is broken.
+/// Decodes the first `len` bytes of the buffer in place, if `len` is from 2 to 65 and these bytes are a frame. Returns
+/// whether it decoded the bytes; if it returns false, the buffer is as it was. The function copies the bytes before it
+/// decodes them, and restores them from the copy if the frame is broken.
 #[inline(always)]
 fn decode_span_in_place(buffer: &mut [u8], len: usize) -> bool
     requires within { len ≤ length buffer.old }
@@ -238,7 +238,8 @@ pub fn decode_short_in_place(buf: &mut [u8]) -> Option<DecodeReport>
     if !decode_span_in_place(buf, len) {
         return None;
     }
-    // A frame of up to 65 bytes has no full block. So each of its codes except the first became a zero of the message.
+    // A frame of up to 65 bytes has no full block. So each of its codes, except the first, has become a zero of the
+    // message.
     Some(DecodeReport {
         parsed_size: len,
         frame_size: len - 1,

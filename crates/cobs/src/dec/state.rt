@@ -151,8 +151,8 @@ impl DecoderState {
         ensures answer { result ≡ table_result self.old byte }
         ensures state { self.new ≡ table_state self.old byte }
 
-        // The clauses `after` and `message` are about the state after p, the front of a piece, has been fed. `so_far`
-        // lists the bytes of the message that the results have contained so far.
+        // The clauses `after` and `message` assume that p, the front of a piece, has been fed before this call. The
+        // list `so_far` has the bytes of the message that the results have contained so far.
         ensures after { (p so_far : List ℕ) → StateAfter self.old p so_far → byte ≢ 0
             → StateAfter self.new (p ++ byte ∷ []) (so_far ++ data_of result) }
         ensures message { (p so_far m : List ℕ) → StateAfter self.old p so_far → byte ≡ 0

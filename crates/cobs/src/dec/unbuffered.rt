@@ -35,9 +35,9 @@ use cobs_bytes::window::{WINDOW, has_vectors};
 ///
 /// A decoder consists of four numbers, and has the layout of a C struct. All four numbers are 0 before a piece begins.
 /// Every call is safe, whatever the numbers are.
-// No number says whether a piece has begun, because the step for a nonzero byte doesn't depend on this. `missing` says
-// whether the byte is a code. `joint` says whether the output has a zero before the block of this code. The first code
-// of a piece is decoded like a code after a full block: the output has no zero before the first block.
+// No number says whether a piece has begun: the step for a nonzero byte doesn't depend on that. `missing` says whether
+// the byte is a code. `joint` says whether the output has a zero before the block of this code. The first code of a
+// piece is decoded like a code after a full block: the output has no zero before the first block.
 #[repr(C)]
 #[derive(Debug, Clone, Copy, PartialEq, Eq)]
 pub struct UnbufferedDecoder {
@@ -113,8 +113,8 @@ impl UnbufferedDecoder {
     }
 
     /// Decodes the next byte of the stream, with `dest` as the buffer. The results and errors are those of
-    /// [`CobsDecoder::feed`](crate::CobsDecoder::feed). As long as the output of the piece fits the buffer, the fed
-    /// byte changes the decoder's state in the same way as it changes a [`DecoderState`](crate::DecoderState).
+    /// [`CobsDecoder::feed`](crate::CobsDecoder::feed). As long as the output of the piece fits the buffer, the byte
+    /// changes the decoder's state in the same way as it would change a [`DecoderState`](crate::DecoderState).
     ///
     /// ```
     /// let mut buffer = [0; 2];

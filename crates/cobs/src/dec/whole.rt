@@ -1,4 +1,4 @@
-//! Decodes a whole frame into another buffer.
+//! Decoding a whole frame into a separate buffer.
 ghost use Rattle.std.specs.Prelude.{◌≡◌, ◌≤◌, ◌+◌, List, length, ℕ, None, IfSome, IsSome};
 ghost use Rattle.cobs.specs.Overwritten.{overwritten};
 ghost use Rattle.cobs.specs.Decode.{IsShortPiece, first_output, result_of_decode};
@@ -16,10 +16,10 @@ use cobs_bytes::window::has_vectors;
 /// Decodes the first frame of the source into `dest`, and returns how many bytes of the source were consumed and how
 /// many bytes the message has.
 ///
-/// Leading zeros are skipped. The frame ends at the next zero, or at the source's end if no other zero follows. The
-/// bytes after the next zero have no effect. The first `frame_size` bytes of `dest` are the message, and the other
-/// bytes of `dest` are as they were. `parsed_size` counts the skipped zeros, the frame, and the zero after the frame if
-/// there is one.
+/// Leading zeros are skipped. The frame ends at the next zero, or at the source's end if there is no other zero. The
+/// bytes after the zero that ends the frame have no effect. The first `frame_size` bytes of `dest` are the message, and
+/// the other bytes of `dest` are as they were. `parsed_size` counts the skipped zeros, the frame, and the zero after
+/// the frame if there is one.
 ///
 /// # Errors
 ///

@@ -56,8 +56,8 @@ pub fn law_15()
 /// come. Then the length of the encoded frame of the whole message is the sum of two numbers. The first number is the
 /// index of the open block. The second number is the length of the encoded frame of another message. This other message
 /// consists of the bytes that the open block has after its code, followed by the bytes that are still to come. The
-/// clause `goes_on` states this sum, but with a list `a` instead of the bytes after the open block's code: `a` may be
-/// any list of the same number of nonzero bytes.
+/// clause `goes_on` states this sum, but it has a list `a` in place of the bytes after the open block's code. The list
+/// `a` may have any nonzero bytes, as many as the open block has after its code.
 ///
 /// So an encoder of your own that writes blocks in this way writes the frames that [`encode`](crate::encode) writes.
 ///
@@ -153,9 +153,10 @@ pub fn law_18()
 /// How to find the kind of a frame, block by block.
 ///
 /// A frame is canonical if it is the frame that encoders write for its message. A single block is a canonical frame. A
-/// block followed by further bytes is a frame if and only if the further bytes are a frame. This frame is canonical if
-/// and only if the further bytes are a canonical frame, with one exception: a full block followed by nothing but the
-/// lone block `01` isn't canonical. If there are fewer bytes than the first code says, the bytes aren't a frame.
+/// block followed by further bytes is a frame if and only if the further bytes are a frame. The whole frame is
+/// canonical if and only if the further bytes are a canonical frame, with one exception: a full block followed by
+/// nothing but the lone block `01` isn't canonical. If there are fewer bytes than the first code says, the bytes aren't
+/// a frame.
 ///
 /// So a reader of your own that goes from code to code can find out whether bytes are a frame, and what kind of frame
 /// they are.

@@ -66,8 +66,8 @@ impl PieceEnd {
 /// ```
 pub trait FrameDecoder {
     /// Decodes the next byte of the stream. The results and errors are those of
-    /// [`CobsDecoder::feed`](crate::CobsDecoder::feed). As long as the output of the piece fits the buffer, the fed
-    /// byte changes the decoder's state in the same way as it changes a [`DecoderState`](crate::DecoderState).
+    /// [`CobsDecoder::feed`](crate::CobsDecoder::feed). As long as the output of the piece fits the buffer, the byte
+    /// changes the decoder's state in the same way as it would change a [`DecoderState`](crate::DecoderState).
     ///
     /// ```
     /// use jcobs::{CobsDecoderHeapless, FrameDecoder};

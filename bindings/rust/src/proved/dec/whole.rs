@@ -1,5 +1,5 @@
 // Made by bindings/rust/translate.py from `crates/cobs/src/dec/whole.rt`: change that file, and run it again.
-//! Decodes a whole frame into another buffer.
+//! Decoding a whole frame into a separate buffer.
 
 use crate::proved::cobs_bytes::window::has_vectors;
 use crate::proved::dec::each::decode_each;
@@ -11,10 +11,10 @@ use crate::proved::find::{leading_zeros, len_without_end};
 /// Decodes the first frame of the source into `dest`, and returns how many bytes of the source were consumed and how
 /// many bytes the message has.
 ///
-/// Leading zeros are skipped. The frame ends at the next zero, or at the source's end if no other zero follows. The
-/// bytes after the next zero have no effect. The first `frame_size` bytes of `dest` are the message, and the other
-/// bytes of `dest` are as they were. `parsed_size` counts the skipped zeros, the frame, and the zero after the frame if
-/// there is one.
+/// Leading zeros are skipped. The frame ends at the next zero, or at the source's end if there is no other zero. The
+/// bytes after the zero that ends the frame have no effect. The first `frame_size` bytes of `dest` are the message, and
+/// the other bytes of `dest` are as they were. `parsed_size` counts the skipped zeros, the frame, and the zero after
+/// the frame if there is one.
 ///
 /// # Errors
 ///
