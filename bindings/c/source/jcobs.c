@@ -58,7 +58,7 @@ typedef char jcobs_size_t_is_no_shorter_than_int[sizeof(size_t) >= sizeof(unsign
  * each block that is neither full nor the last. The last block is open as long as more bytes may follow. */
 enum {
     JCOBS_FULL_BLOCK_BYTES = 254, /* the number of bytes that a full block has after its code */
-    JCOBS_FULL_CODE = 255         /* the code of a full block. It is the number of bytes in the block */
+    JCOBS_FULL_CODE = 255         /* the code of a full block */
 };
 
 /* jcobs.h declares the states. Their members have these meanings:
@@ -537,7 +537,7 @@ static JCOBS_APART size_t jcobs_length_to_zero(const unsigned char *bytes, size_
 
 /* Decodes the first frame_len bytes of the buffer in place, as one frame and one byte at a time. Returns the
  * message's length in bytes. The message is then at the front of the buffer, and every byte after the message is
- * as it was. No byte of the frame is a zero. If the last block is cut off, it returns JCOBS_END_BROKEN, with the
+ * unchanged. No byte of the frame is a zero. If the last block is cut off, it returns JCOBS_END_BROKEN, with the
  * length of the output of the blocks before it. */
 static JCOBS_APART jcobs_end jcobs_decode_blocks(unsigned char *buffer, size_t frame_len)
 {

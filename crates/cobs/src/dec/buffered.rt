@@ -63,7 +63,7 @@ impl<'a> CobsDecoder<'a> {
     /// - `Ok(None)`: the byte didn't end a piece, and the slice begins with the output of the piece so far.
     /// - `Ok(Some(n))`: the byte was the zero after a whole frame, and the message is the slice's first `n` bytes.
     ///
-    /// The bytes of the slice after the output are as they were. As long as the output of the piece fits the slice, the
+    /// The bytes of the slice after the output are unchanged. As long as the output of the piece fits the slice, the
     /// byte changes the decoder's state in the same way as it would change a [`DecoderState`](crate::DecoderState).
     ///
     /// # Errors

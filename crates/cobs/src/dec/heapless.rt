@@ -155,7 +155,7 @@ impl<const N: usize> CobsDecoderHeapless<N> {
     /// assert_eq!(rt; decoder.dest(), [9, 9].as_slice());
     /// ```
     pub fn dest_mut(&mut self) -> &mut [u8]
-        // `N.row` is `N`, in the form that a parameter of a type has in a contract.
+        // Contracts write a type's parameter `N` as `N.row`.
         ensures* writes_back { sem 𝓛 (LendsHeapless N.row self.entry result) }
         ensures value { result.now ≡ heapless_buffer self.old }
     {

@@ -126,7 +126,7 @@ fn decode_blocks_in_place(buffer: &mut [u8], end: usize) -> Result<usize, Decode
 }
 
 /// Decodes the first `len` bytes of the buffer in place, if `len` is from 2 to 65 and these bytes are a frame. Returns
-/// whether it decoded the bytes; if it returns false, the buffer is as it was. The function copies the bytes before it
+/// whether it decoded the bytes; if it returns false, the buffer is unchanged. The function copies the bytes before it
 /// decodes them, and restores them from the copy if the frame is broken.
 #[inline(always)]
 fn decode_span_in_place(buffer: &mut [u8], len: usize) -> bool
@@ -148,7 +148,7 @@ fn decode_span_in_place(buffer: &mut [u8], len: usize) -> bool
     }
     coded[0] = buffer[0];
     // The bytes to decode are moved within the buffer. They aren't copied back from `coded`, because a load from
-    // `coded` would have to wait until the vectors that were just copied to `coded` are stored.
+    // `coded` would have to wait for the stores that have just filled `coded`.
     move_to_front(buffer, 1, len - 1);
     let (_, left) = write_zeros_at_codes(&mut buffer[..len - 1], coded[0] as usize);
     if left != 0 {
@@ -161,7 +161,7 @@ fn decode_span_in_place(buffer: &mut [u8], len: usize) -> bool
 /// Decodes the frame at the front of the buffer in place, up to the first zero or the buffer's end. Returns the length
 /// of the frame and the length of the message, in bytes.
 ///
-/// The first `frame_size` bytes of the buffer are then the message, and every other byte of the buffer is as it was.
+/// The first `frame_size` bytes of the buffer are then the message, and every other byte of the buffer is unchanged.
 /// `parsed_size` is the number of bytes before the first zero, or the length of the buffer if it has no zero. Unlike
 /// [`decode`](crate::decode), this function reads a leading zero as an empty message. Both `parsed_size` and
 /// `frame_size` are then 0. This function never returns `TargetBufTooSmall`, because a message is shorter than its
@@ -172,8 +172,8 @@ fn decode_span_in_place(buffer: &mut [u8], len: usize) -> bool
 /// - `EmptyFrame` if the buffer is empty.
 /// - `InvalidFrame` if the frame breaks off inside a block. The buffer then begins with the output of the whole blocks
 ///   before the broken block. If the block before the broken block isn't full, the output ends with the zero that joins
-///   the two blocks. `decoded_bytes` is the length of this output, and every byte of the buffer after the output is as
-///   it was.
+///   the two blocks. `decoded_bytes` is the length of this output, and every byte of the buffer after the output is
+///   unchanged.
 ///
 /// The rule that an error leaves the bytes after the output unchanged is a choice of this library.
 ///
@@ -212,7 +212,7 @@ pub fn decode_in_place_report(buf: &mut [u8]) -> Result<DecodeReport, DecodeErro
 }
 
 /// Decodes a short frame in place, as [`decode_in_place_report`] does. If the buffer isn't a short frame, returns
-/// `None` and leaves the buffer as it was.
+/// `None` and leaves the buffer unchanged.
 ///
 /// The buffer is decoded if it consists of a whole frame of 2 to 65 bytes, with or without one zero after the frame. If
 /// the target has SIMD vectors, [`decode_in_place_report`] calls this function first. Like
@@ -249,7 +249,7 @@ pub fn decode_short_in_place(buf: &mut [u8]) -> Option<DecodeReport>
 /// Decodes the frame at the front of the buffer in place, up to the first zero or the buffer's end, and returns the
 /// message's length.
 ///
-/// The message is then at the front of the buffer, and every byte after the message is as it was. Unlike
+/// The message is then at the front of the buffer, and every byte after the message is unchanged. Unlike
 /// [`decode`](crate::decode), this function reads a leading zero as an empty message. The errors are those of
 /// [`decode_in_place_report`].
 ///

@@ -164,8 +164,8 @@ impl UnbufferedDecoder {
         let mut at = 0;
         'by_run: while at < bytes.len() {
             at += self.take_at_once(dest, &bytes[at..]);
-            // The byte at `at` is a zero, or a byte of a piece that is too long. On a target without vectors, it may be
-            // any byte.
+            // The byte at index `at` is a zero, or a byte of a piece that is too long. On a target without vectors, it
+            // may be any byte.
             if at < bytes.len() {
                 let parsed_size = at + 1;
                 match self.feed(dest, bytes[at]) {
@@ -226,7 +226,7 @@ impl UnbufferedDecoder {
         if taken == bytes.len() {
             return None;
         }
-        // The byte at `taken` is the zero that ends the open piece.
+        // The byte at index `taken` is the zero that ends the open piece.
         let last = PieceEnd::reported(self.end(dest.len()))?;
         Some((last, taken + 1))
     }
@@ -252,9 +252,9 @@ impl UnbufferedDecoder {
         self.pass_to_end(dest, bytes, taken)
     }
 
-    /// Returns the number of zeros at the front of `bytes` if no piece has begun: these zeros end no piece. If a piece
-    /// has begun, the function returns 0. Some serial lines carry many zeros while no frame is sent. The caller ensures
-    /// that there is at least one byte.
+    /// Returns the number of zeros at the front of `bytes` if no piece has begun, because these zeros then end no
+    /// piece. If a piece has begun, the function returns 0. Some serial lines carry many zeros while no frame is sent.
+    /// The caller ensures that there is at least one byte.
     #[inline(always)]
     fn zeros_outside(&self, bytes: &[u8]) -> usize
         requires some { 0 < length bytes.now }

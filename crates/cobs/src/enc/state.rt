@@ -123,8 +123,8 @@ impl Clone for EncoderState {
 }
 
 impl EncoderState {
-    /// Returns whether another byte can be pushed, whatever its value is. It can be pushed if the index of a block that
-    /// begins after this byte would fit a `usize`. The Rust crate `cobs` has no such call.
+    /// Returns whether another byte can be pushed, whatever its value is. It can be pushed if the index after this
+    /// byte, at which a block may begin, fits a `usize`. The Rust crate `cobs` has no such call.
     ///
     /// ```
     /// assert!(rt; EncoderState::default().can_push());

@@ -7,7 +7,7 @@ use crate::proved::error::{DecodeError, DecodeReport};
 use crate::proved::find::{leading_zeros, len_to, len_to_zero};
 
 /// Decodes the first `end` bytes of the buffer in place, as one frame and one byte at a time. Returns the message's
-/// length in bytes. The message is then at the front of the buffer, and every byte after the message is as it was. The
+/// length in bytes. The message is then at the front of the buffer, and every byte after the message is unchanged. The
 /// code of this function is small, and uses no SIMD vectors.
 ///
 /// Precondition: the buffer has at least `end` bytes, and none of its first `end` bytes is a zero.

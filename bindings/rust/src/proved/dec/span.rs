@@ -52,9 +52,9 @@ pub(crate) fn write_zeros_at_copied(
 }
 
 /// Decodes up to seven rows from the front of `bytes`, and returns the number of bytes that it decoded. A row consists
-/// of 32 blocks, each with the code 01. `byte` is this code, XORed with the sentinel. For each code the function writes
-/// a zero to `dest`, from index `at` on. It stops before 32 bytes that aren't a row, and before a row for which `dest`
-/// has no room. The limit is seven rows, because eight rows would be longer than a span.
+/// of 32 blocks, each with the code 01. `byte` is this code, XORed with the sentinel. For each code, the function
+/// writes a zero to `dest`, from index `at` on. It stops if the next 32 bytes aren't a row, or if `dest` has no room
+/// for another row. The limit is seven rows, because eight rows would be longer than a span.
 #[inline(always)]
 pub(crate) fn write_rows(dest: &mut [u8], at: usize, bytes: &[u8], byte: u8) -> usize {
     let most = bytes.len().min(dest.len().saturating_sub(at)).min(SPAN_MAX);
@@ -67,7 +67,7 @@ pub(crate) fn write_rows(dest: &mut [u8], at: usize, bytes: &[u8], byte: u8) -> 
 }
 
 /// Writes a zero over each code in `dest`, as [`write_zeros_at_copied`] does. If `dest` begins with rows of 32 blocks,
-/// each with the code 01, the function replaces each row in one step.
+/// each with the code 01, the function writes the zeros of each row in one step.
 // It would be slower to go through a row from code to code, because each load would wait for the preceding load. The
 // function looks for rows only at the front of `dest`, because a test after each code would take longer than decoding
 // the code.

@@ -136,15 +136,15 @@ fn write_codes_of_zeros(source: &[u8], dest: &mut [u8], at: usize) -> usize {
 ///
 /// Each window is copied to the index at which the frame's next byte belongs. If the bytes before the window's first
 /// zero fill the open block, the function closes this block and returns. The caller then copies the rest of the run in
-/// slices, because a run that fills one block often fills more blocks. If these bytes don't fill the open block, the
-/// function writes a code over each zero of the window, and the last block stays open for the next window. If the
-/// window consists of zeros, the windows of zeros after it aren't copied. Instead, the function writes the codes for
-/// their zeros, 32 codes at a time. The bytes of `dest` after the frame don't change.
+/// slices, because a run that fills one block often fills more blocks. If the bytes before the first zero don't fill
+/// the open block, the function writes a code over each zero of the window, and the last block stays open for the next
+/// window. If the window consists only of zeros, the windows of zeros that follow it aren't copied. Instead, the
+/// function writes the codes for their zeros, 32 codes at a time. The bytes of `dest` after the frame don't change.
 ///
 /// In the body of the function, the code of the open block belongs at `index`, and the window is copied to `next`. The
-/// end of a block is the index after its last byte. If the window has a zero, its first zero is copied to `place`, and
-/// the open block's end is `place`. If the window has no zero, the open block's end is `next + 32`. A full block has
-/// 255 bytes. So the open block doesn't become full if its end is less than `index + 255`.
+/// end of a block is the index after its last byte. If the window has a zero, its first zero is copied to index
+/// `place`, and the open block's end is `place`. If the window has no zero, the open block's end is `next + 32`. A full
+/// block has 255 bytes. So the open block doesn't become full if its end is less than `index + 255`.
 #[inline(always)]
 fn append_windows(
     source: &[u8],
@@ -277,9 +277,10 @@ pub(crate) fn append(
 
 /// Writes the code of the open block, unless the frame ends with a full block, and returns the frame's length. Before
 /// the call, the byte at the code's index may have any value.
-// First, the function tests whether `index` is within the slice, though `index` can be outside the slice only after a
-// full block. If this test didn't come first, compilers would move the other test, of `encoder.full`, into the caller's
-// loop over single bytes. With link-time optimization, this can halve that loop's speed in the Rust crate `jcobs`.
+// The function first tests whether `index` is within the slice, even though `index` can be outside the slice only after
+// a full block. If this test didn't come first, compilers would move the other test, of `encoder.full`, into the
+// caller's loop over single bytes. With link-time optimization, this can halve that loop's speed in the Rust crate
+// `jcobs`.
 #[inline(always)]
 pub(crate) fn close_block(dest: &mut [u8], encoder: &UnbufferedEncoder) -> usize {
     let index = encoder.index;
@@ -292,8 +293,8 @@ pub(crate) fn close_block(dest: &mut [u8], encoder: &UnbufferedEncoder) -> usize
 }
 
 /// Writes the code of the open block, unless the frame ends with a full block, and returns the frame's length, as
-/// [`close_block`] does. If the frame ends with a full block, and the target has SIMD vectors, `close` also stores the
-/// byte of the slice after the frame, if there is one. This byte keeps its value.
+/// [`close_block`] does. If the frame ends with a full block, and the target has SIMD vectors, `close` also writes the
+/// byte of the slice after the frame, if there is one, but this byte keeps its value.
 // Because of this store, compilers keep the caller's loop over single bytes as it is written. Without the store, that
 // loop is slower in the Rust crate `jcobs` on x86-64. On a target without vectors, `close` calls `close_block`, which
 // needs less flash.
