@@ -17,7 +17,7 @@ use thiserror::Error;
 #[error("out of bounds error during encoding")]
 pub struct DestBufTooSmallError;
 
-/// The reason why a frame is rejected. The names of the variants are those of the Rust crate `cobs`.
+/// The reason why a frame is rejected. The variants have the same names as in the Rust crate `cobs`.
 ///
 /// ```
 /// assert_eq!(rt; decode(&[], &mut [0; 4]), Err(DecodeError::EmptyFrame));
@@ -87,7 +87,7 @@ pub enum DecodeVecError {
 }
 
 /// A report about a decoded message: how many bytes of the source were consumed, and how many bytes the message has.
-/// The names of the methods are those of the Rust crate `cobs`.
+/// The methods have the same names as in the Rust crate `cobs`.
 ///
 /// ```
 /// let report = decode(&[0, 3, 1, 2, 0, 1], &mut [0; 4])?;

@@ -215,7 +215,7 @@ pub fn law_7()
 /// Frames joined without a sentinel.
 ///
 /// Two frames without a sentinel between them are one frame. The message of this frame consists of the first frame's
-/// message, a zero unless the first frame ends in a full block, and the second frame's message.
+/// message, a zero (unless the first frame ends in a full block), and the second frame's message.
 ///
 /// So if the sentinel between two frames is lost, a receiver reads one message, and can't know that two messages were
 /// sent. To notice a lost sentinel, put a checksum of your own into each message.

@@ -5,8 +5,8 @@
 //! serial line or in a file. If a frame is damaged, the receiver waits for the next sentinel and reads the frame after
 //! that sentinel. A frame is a list of blocks. A block is a code followed by up to 254 nonzero bytes. The code is the
 //! length of the block in bytes, including the code itself. A block with the code 255 is full: 254 nonzero bytes follow
-//! its code. Between two blocks the message has a zero, unless the first of these two blocks is full. The frame of a
-//! message of up to 254 bytes is one byte longer than the message. If a longer message has `n` bytes, its frame is
+//! its code. After the bytes of each block but the last, the message has a zero, unless that block is full. The frame
+//! of a message of up to 254 bytes is one byte longer than the message. If a longer message has `n` bytes, its frame is
 //! longer than the message by at most `n / 254` bytes, rounded up. The format is that of the paper "Consistent Overhead
 //! Byte Stuffing" by Stuart Cheshire and Mary Baker.
 //!
@@ -71,7 +71,7 @@
 //! - [`CobsDecoderHeapless`] decodes into a buffer that is part of the decoder.
 //! - [`UnbufferedDecoder`] decodes into a buffer that you pass to each call.
 //! - [`DecoderState`] has no buffer: you write the decoded bytes to a container of your own.
-//! - [`FrameReader`] reads frames from any reader.
+//! - [`FrameReader`] reads frames from any source of bytes.
 //!
 //! Other calls, and the laws:
 //!

@@ -38,7 +38,7 @@ pub enum FrameOutcome {
     TooLong,
 }
 
-/// Returns the outcome of a piece. `end` says how the piece ended, and `buffer` contains its output.
+/// Returns the outcome of a piece. `end` says how the piece ended, and `buffer` begins with the piece's output.
 fn frame_outcome(alloc: Global, end: PieceEnd, buffer: &[u8]) -> Result<FrameOutcome, AllocError>
     requires { IsWithin (length buffer.now) end }
     ensures { IfOk result (λ outcome. outcome_in outcome ≡ outcome_at end buffer.now) }

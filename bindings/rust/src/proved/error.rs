@@ -25,7 +25,7 @@ impl core::fmt::Display for DestBufTooSmallError {
 
 impl core::error::Error for DestBufTooSmallError {}
 
-/// The reason why a frame is rejected. The names of the variants are those of the Rust crate `cobs`.
+/// The reason why a frame is rejected. The variants have the same names as in the Rust crate `cobs`.
 ///
 /// ```
 /// use jcobs::{DecodeError, decode};
@@ -105,7 +105,7 @@ impl core::fmt::Display for PushError {
 impl core::error::Error for PushError {}
 
 /// A report about a decoded message: how many bytes of the source were consumed, and how many bytes the message has.
-/// The names of the methods are those of the Rust crate `cobs`.
+/// The methods have the same names as in the Rust crate `cobs`.
 ///
 /// ```
 /// use jcobs::decode;

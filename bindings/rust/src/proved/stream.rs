@@ -41,7 +41,7 @@ pub enum FrameOutcome {
     TooLong,
 }
 
-/// Returns the outcome of a piece. `end` says how the piece ended, and `buffer` contains its output.
+/// Returns the outcome of a piece. `end` says how the piece ended, and `buffer` begins with the piece's output.
 #[cfg(feature = "alloc")]
 fn frame_outcome(end: PieceEnd, buffer: &[u8]) -> Result<FrameOutcome, AllocError> {
     match end {

@@ -145,8 +145,8 @@ pub trait FrameDecoder {
 /// Each decoder of this library that implements this trait also has an inherent method `dest_mut`. A proof about a
 /// caller of `CobsDecoder::dest_mut` can use facts about the bytes of the slice while the returned reference is in use.
 /// After the write, the proof can't use facts about the decoder's state, because a `CobsDecoder` borrows its slice. If
-/// the proof needs these facts, the caller writes with [`write_dest`](WriteBuffer::write_dest) instead, or, in generic
-/// code, with the `dest_mut` of this trait. The Rust crate `cobs` has no such trait.
+/// the proof needs these facts, the caller writes with [`write_dest`](WriteBuffer::write_dest) instead. Generic code
+/// can also write with the `dest_mut` of this trait. The Rust crate `cobs` has no such trait.
 ///
 /// ```
 /// let mut buffer = [0; 3];

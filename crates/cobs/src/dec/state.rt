@@ -6,7 +6,7 @@ ghost use Rattle.cobs.specs.declared.dec.state.DecodeResult.TheVariants.{DataCom
 
 use crate::error::DecodeError;
 
-/// A decoder's state within a frame.
+/// The state of a decoder between two bytes of a stream.
 ///
 /// The state doesn't hold the output, so a caller can write the decoded bytes to a container of its own.
 ///
@@ -135,7 +135,7 @@ impl DecoderState {
     /// - For a byte inside a block, the result is `DataContinue` with this byte.
     ///
     /// Every state has a result for every byte, even a state that no frame leads to, such as `Grab(255)`. The rules for
-    /// blocks are those of the paper by Cheshire and Baker. The names of the results are those of the Rust crate
+    /// blocks are those of the paper by Cheshire and Baker. The results have the same names as in the Rust crate
     /// `cobs`.
     ///
     /// # Errors

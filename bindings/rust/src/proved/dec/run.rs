@@ -65,8 +65,8 @@ impl UnbufferedDecoder {
         1 + len
     }
 
-    /// Makes the last block of a span the open block. `last` consists of the code of this block and the number of its
-    /// missing bytes.
+    /// Records that the last block of a span is now the open block. `last` consists of the code of this block and the
+    /// number of its missing bytes.
     #[inline(always)]
     fn settle(&mut self, last: (u8, u8)) {
         let (code, missing) = last;
