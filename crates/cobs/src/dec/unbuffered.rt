@@ -36,7 +36,7 @@ use cobs_bytes::window::{WINDOW, has_vectors};
 /// A decoder consists of four numbers, and has the layout of a C struct. All four numbers are 0 before a piece begins.
 /// Every call is safe, whatever the numbers are.
 // No number says whether a piece has begun: the step for a nonzero byte doesn't depend on that. `missing` says whether
-// the byte is a code. `joint` says whether the output has a zero before the block of this code. The first code of a
+// that byte is a code. `joint` says whether the output has a zero before the block of this code. The first code of a
 // piece is decoded like a code after a full block: the output has no zero before the first block.
 #[repr(C)]
 #[derive(Debug, Clone, Copy, PartialEq, Eq)]
