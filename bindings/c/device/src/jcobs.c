@@ -535,10 +535,10 @@ static JCOBS_APART size_t jcobs_length_to_zero(const unsigned char *bytes, size_
     return len - rest_len;
 }
 
-/* Decodes the first frame_len bytes of the buffer as one frame, in the buffer itself and one byte at a time.
- * Returns the message's length in bytes. The message is then at the front of the buffer, and every byte after the
- * message is as it was. No byte of the frame is a zero. If the last block is cut off, it returns JCOBS_END_BROKEN,
- * with the length of the output of the blocks before it. */
+/* Decodes the first frame_len bytes of the buffer in place, as one frame and one byte at a time. Returns the
+ * message's length in bytes. The message is then at the front of the buffer, and every byte after the message is
+ * unchanged. No byte of the frame is a zero. If the last block is cut off, it returns JCOBS_END_BROKEN, with the
+ * length of the output of the blocks before it. */
 static JCOBS_APART jcobs_end jcobs_decode_blocks(unsigned char *buffer, size_t frame_len)
 {
     size_t read = 0;

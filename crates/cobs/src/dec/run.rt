@@ -97,8 +97,8 @@ impl UnbufferedDecoder {
         1 + len
     }
 
-    /// Makes the last block of a span the open block. `last` consists of the code of this block and the number of its
-    /// missing bytes.
+    /// Records that the last block of a span is now the open block. `last` consists of the code of this block and the
+    /// number of its missing bytes.
     #[inline(always)]
     fn settle(&mut self, last: (u8, u8))
         ensures full { last.0 ≡ 255 → self.new.joint ≡ 0 }
@@ -201,7 +201,7 @@ impl UnbufferedDecoder {
     }
 
     /// Decodes `bytes` as one span, or decodes nothing. Returns whether it decoded the bytes; if it returns false,
-    /// nothing has changed. The function decodes the bytes exactly if all of these conditions hold:
+    /// nothing has changed. The function decodes the bytes if and only if all of these conditions hold:
     ///
     /// - A piece has begun, and isn't too long for the buffer.
     /// - There are 1 to 31 bytes, and none of them is a zero.
@@ -232,8 +232,8 @@ impl UnbufferedDecoder {
 
     /// Decodes `bytes`, the first bytes of a piece, or decodes nothing. Returns whether it decoded the bytes; if it
     /// returns false, nothing has changed. The caller ensures that `bytes` has at most 65 bytes, and that none of them
-    /// is a zero. The function decodes the bytes exactly if there are at least 2 bytes, and `dest` has room for their
-    /// output. The output is one byte shorter than `bytes`.
+    /// is a zero. The function decodes the bytes if and only if there are at least 2 bytes, and `dest` has room for
+    /// their output. The output is one byte shorter than `bytes`.
     #[inline(always)]
     pub(crate) fn take_front(&mut self, dest: &mut [u8], bytes: &[u8]) -> bool
         requires idle { phase_of self.old ≡ Idle }
