@@ -1,18 +1,31 @@
 -- Each turn takes a part of the run (`slice-joined`), which may fill its block; the zero after the run closes the last
--- one.
+-- one. For the answers `grind (arith, common_steps)`, the search that is made where no answer is written would take long.
 use Rattle.std.proofs.Common.{◌≡◌, ◌==◌, ◌+◌, ◌-◌, ℕ, List, drop, get_or, refl, arith, length-drop}
 use Rattle.std.specs.Prelude.{not}
 use borrow.Rule.Slice.PartMut.{put_mid}
+use Rattle.std.proofs.lemmas.Grind.{common_steps}
 use Rattle.std.proofs.lemmas.List.{drop_more}
 use Rattle.cobs.specs.OpenBlock.{Reached, place_at}
 use Rattle.cobs.specs.Internal.Reaches.{Reaches, start_with}
 use Rattle.cobs.proofs.encoding.ByteLemmas.{byte-zero}
 use Rattle.cobs.proofs.encoding.ReachLemmas.{IsNotFull}
 use Rattle.cobs.proofs.encoding.MarkLemmas.{slice-joined}
-use Rattle.cobs.proofs.encoding.TakingLemmas.{front-filled, front-next, front-open, next-least, reaches-start}
+use Rattle.cobs.proofs.encoding.TakingLemmas.{front-filled, front-next, front-none, front-open, next-least, reaches-start}
 use Rattle.cobs.proofs.enc.blocks.append_long_run.Goals.{After-copy_from_slice}
 use Rattle.cobs.proofs.enc.blocks.append_long_run.Goals as goal
 use Rattle.cobs_bytes.proofs.bytes.ListLemmas.{part-nonzero}
+
+-- at the start, no byte is taken
+pub by_block-init : goal.by_block-init
+by_block-init c =
+    let start = c.args.encoder in
+    let code : start.index + (start.taken + 1) - start.index ≡ start.taken + 1 = omega arith in
+    record {
+      within = omega arith;
+      ordered = omega arith;
+      short = omega arith;
+      taken = rw code (front-none c.requires.place);
+    }
 
 -- the part that is copied fits the slice, because the frame needs at least as many bytes as are left (`next-least`)
 pub slice_bounds-copy_from_slice-end : goal.slice_bounds-copy_from_slice-end
@@ -65,6 +78,13 @@ by_block-preserved-then-next-index c =
       -- the steps so far, and then this step (`front-next`), which `front-filled` states
       taken = front-next c.by_block.read refl c.by_block.invariant.taken c.min-len.result (front-filled (omega arith) c.if-next-index.true s (omega arith) refl);
     }
+
+-- the place of the open block's code is within the slice, in the loop and after it
+pub bounds-dest-index : goal.bounds-dest-index
+bounds-dest-index c = grind (arith, common_steps)
+
+pub bounds-dest-index-2 : goal.bounds-dest-index-2
+bounds-dest-index-2 c = grind (arith, common_steps)
 
 -- after the loop, a zero follows the run, and closes the open block
 pub returns-clause-taken : goal.returns-clause-taken

@@ -1,5 +1,6 @@
 -- Each turn takes one window: without a zero (`masked-end`), with zeros that are marked (`masked-step`), with zeros
--- only (`row-taken`), or up to a full block (`filled`).
+-- only (`row-taken`), or up to a full block (`filled`). For the answers `grind (arith, common_steps)` alone, the search
+-- that is made where no answer is written would take long.
 use Rattle.std.proofs.Common.{ℕ, ◌≡◌, refl, ◌≢◌, ◌<◌, ◌≤◌, ◌+◌, ◌-◌, min, arith, length, take, drop, length-drop}
 use lib.Count.{count_trailing_zeros}
 use Rattle.std.proofs.lemmas.Grind.{common_steps}
@@ -57,6 +58,10 @@ by_window-init c =
     let short = c.requires.place.not_full in
     record { more = omega arith; open' = omega arith; reaches = Reaches-weaker (reaches-start c.requires.some c.requires.place.some short) (grind arith) }
 
+-- there is room for the window, as `copy_at` requires
+pub copy_at-window-requires-clause-room : goal.copy_at-window-requires-clause-room
+copy_at-window-requires-clause-room c = grind (arith, common_steps)
+
 -- a window without a zero is taken, and leaves its block open
 pub by_window-preserved-then-next-index : goal.by_window-preserved-then-next-index
 by_window-preserved-then-next-index c =
@@ -67,6 +72,14 @@ by_window-preserved-then-next-index c =
 -- `mark_zeros` gets the mask without the first zero
 pub mark_zeros-index-requires : goal.mark_zeros-index-requires
 mark_zeros-index-requires c = (_, _, _, coded (goal.at.mark_zeros-index-requires c).After-copy_at-window c.if-window-eq0.false (omega arith))
+
+-- there is room for the codes of the bytes that are left, as `write_codes_of_zeros` requires
+pub write_codes_of_zeros-zeros-requires-clause-room : goal.write_codes_of_zeros-zeros-requires-clause-room
+write_codes_of_zeros-zeros-requires-clause-room c = grind (arith, common_steps)
+
+-- the index after these codes is within the slice
+pub overflow_add-next-then-window-eq-ALL_ZEROS : goal.overflow_add-next-then-window-eq-ALL_ZEROS
+overflow_add-next-then-window-eq-ALL_ZEROS c = grind (arith, common_steps)
 
 -- `write_codes_of_zeros` has written the codes of a row of zeros, so these zeros are taken; there is at least one, and
 -- a byte is left
