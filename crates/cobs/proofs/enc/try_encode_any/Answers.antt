@@ -1,6 +1,7 @@
 -- The whole source was taken from an encoder that had taken nothing (`start-after`), and closing its last block ends
 -- the frame.
 use Rattle.std.proofs.Common.{◌<◌, ◌∙◌, length, arith}
+use Rattle.std.proofs.lemmas.Grind.{common_steps}
 use Rattle.cobs.proofs.encoding.TakingLemmas.{start-after, start-len}
 use Rattle.cobs.proofs.format.SentinelLemmas.{encoded_nonzero}
 use Rattle.cobs.proofs.enc.try_encode_any.Goals as goal
@@ -18,3 +19,8 @@ returns-clause-len c =
 
 pub returns-clause-no_sentinel : goal.returns-clause-no_sentinel
 returns-clause-no_sentinel c = encoded_nonzero (returns-clause-frame c)
+
+-- `close` leaves the bytes after the frame as they were before `try_append`; the search that is made where no answer is
+-- written would take long
+pub returns-clause-rest : goal.returns-clause-rest
+returns-clause-rest c = grind (arith, common_steps)
