@@ -15,6 +15,10 @@ returns-then-source-le-WINDOW-clause-frame c = c.close.ensures.frame c.args.sour
 pub returns-then-source-le-WINDOW-clause-len : goal.returns-then-source-le-WINDOW-clause-len
 returns-then-source-le-WINDOW-clause-len c = grind (arith, common_steps)
 
+-- the bytes after this frame are as they were; the search that is made where no answer is written would take long
+pub returns-then-source-le-WINDOW-clause-rest : goal.returns-then-source-le-WINDOW-clause-rest
+returns-then-source-le-WINDOW-clause-rest c = grind (arith, common_steps)
+
 -- no byte of this frame is a zero
 pub returns-then-source-le-WINDOW-clause-no_sentinel : goal.returns-then-source-le-WINDOW-clause-no_sentinel
 returns-then-source-le-WINDOW-clause-no_sentinel c = encoded_nonzero (returns-then-source-le-WINDOW-clause-frame c)
