@@ -131,7 +131,7 @@ module _ {buffer₀ buffer buffer' : List ℕ} {phase₀ phase phase' : Phase} {
         };
         holds = holds_behind;
         untouched = untouched_behind;
-        bound = grind (arith, count-within);
+        bound = λ p h. count-within end buffer' _ _ (takes.alike p h) fits;
         idle = f.zero_idle z;
-        within = grind arith;
+        within = (omega arith, fits);
       }

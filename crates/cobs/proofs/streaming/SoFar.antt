@@ -96,7 +96,15 @@ module _ {buffer buffer' : List ℕ} {phase phase' : Phase} {byte : ℕ} {result
 
   -- `TakesBytes` for this byte
   pub TakesBytes-byte : TakesBytes buffer phase (byte ∷ []) (reported_by byte result buffer') buffer' phase'
-  TakesBytes-byte = grind (arith, unended-push_piece, reported_byte, stream_outcomes-push_piece, alike_byte, Contains-push_cases, DecoderAfter-idle)
+  TakesBytes-byte = record {
+    len = f.len;
+    feeds = (result, buffer', phase', f, (refl, refl));
+    phased = λ p h. rw (unended-push_piece p byte h.piece) (f.phased p h);
+    after = λ p h. rw (unended-push_piece p byte h.phased.piece) (f.after p h);
+    outcomes = λ p h. rw (stream_outcomes-push_piece p byte (length buffer) h.phased.piece) (reported_byte p h);
+    alike = λ p h. rw (stream_outcomes-push_piece p byte (length buffer) h.piece) (alike_byte p h);
+    after_zero = grind (arith, unended-push_piece, Contains-push_cases, DecoderAfter-idle);
+  }
 
 -- if the phase before the bytes `done` is the phase after the front p, the phase after these bytes is the phase after
 -- the unended bytes of p ++ done
