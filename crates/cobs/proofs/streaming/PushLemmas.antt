@@ -119,12 +119,27 @@ module _ {buffer₀ buffer buffer' : List ℕ} {phase₀ phase phase' : Phase} {
 
   -- if this byte returns an error, the push returns this error
   pub pushed_error : (e : DecodeError) → result ≡ Err e → PushesBytes buffer₀ phase₀ bytes (Err (record { error = e; parsed_size = i + 1 })) buffer' phase'
+  -- the last byte that the error counts, at index i + 1 - 1, is this byte
   pushed_error e is = ended (Err (record { error = e; parsed_size = i + 1 })) refl (sym is)
       (λ p h. rw is (ap (λ (k : ℕ). cond (eqb (get_or bytes k 0) 0) (error_outcomes e) []) (omega arith))) tt
 
 -- if no byte is left, the push returns `Ok(None)`
 pub pushed_none : {buffer₀ buffer : List ℕ} {phase₀ phase : Phase} (bytes : List ℕ) (i : ℕ) → i ≡ length bytes → Pushed buffer₀ phase₀ buffer phase bytes i → PushesBytes buffer₀ phase₀ bytes (Ok None) buffer phase
-pushed_none {buffer₀} {buffer} {phase₀} {phase} bytes i all s = grind arith
+-- the consumed bytes are all bytes, which are the first i bytes
+pushed_none bytes i all s = let end = rw all at s in record {
+  push_returns = λ p h place inside. grind (arith, end.quiet p h place inside);
+  phased = end.piece.takes.phased;
+  after = end.piece.takes.after;
+  holds = end.piece.holds;
+  untouched = end.piece.untouched;
+  outcomes = λ p h. sym (end.piece.takes.outcomes p h);
+  feeds = end.feeds;
+  some = λ other. absurd (other refl);
+  within = omega arith;
+  bound = tt;
+  zero_idle = end.zero_idle;
+  len = end.piece.takes.len;
+}
 
 -- if the next r bytes are fed quietly (`FeedsQuietly`), the push continues after them
 pub pushed_fed : {buffer₀ buffer buffer' : List ℕ} {phase₀ phase phase' : Phase} (bytes : List ℕ) (i r : ℕ) → i + r ≤ length bytes → Pushed buffer₀ phase₀ buffer phase bytes i
