@@ -1,8 +1,8 @@
 -- Most clauses that are proved here are `fits`, `taken` and `rest`. `taken` and `rest` follow from the step that has
 -- taken the bytes (`all-after`, `all-rest`), whose progress `set` copies to the encoder. For `fits`: the frame of all
--- bytes so far ends at `end_after` (`after-end`), so it fits exactly if this index is at most the slice's length. Each
--- goal is about one of the ways in which the call returns. The answers `grind (arith, common_steps)` are written because
--- the search for goals without an answer would take long.
+-- bytes so far ends at `end_after` (`after-end`), so it fits if and only if this index is at most the slice's length.
+-- Each goal is about one of the ways in which the call returns. The answers `grind (arith, common_steps)` are written
+-- because the search for goals without an answer would take long.
 use Rattle.std.proofs.Common.{append-nil, [], ◌≡◌, refl, arith}
 use Rattle.std.proofs.lemmas.Grind.{common_steps}
 use Rattle.cobs.proofs.encoding.AfterLemmas.{after-end, after-fits, after-place}
