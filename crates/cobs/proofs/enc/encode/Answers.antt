@@ -12,11 +12,13 @@ returns-then-source-le-WINDOW-clause-frame c = c.close.ensures.frame c.args.sour
 
 -- the length of this frame
 pub returns-then-source-le-WINDOW-clause-len : goal.returns-then-source-le-WINDOW-clause-len
-returns-then-source-le-WINDOW-clause-len c = c.close.ensures.end ∙ start-len c.args.dest.now _ c.new.ensures.start (omega arith) c.append_short-encoder.ensures
+returns-then-source-le-WINDOW-clause-len c =
+    c.close.ensures.end ∙ start-len c.args.dest.now _ c.new.ensures.start (omega arith) c.append_short-encoder.ensures
 
 -- the bytes after this frame are as they were
 pub returns-then-source-le-WINDOW-clause-rest : goal.returns-then-source-le-WINDOW-clause-rest
-returns-then-source-le-WINDOW-clause-rest c = c.close.ensures.rest ∙ (rw c.close.ensures.end (all-rest c.append_short-encoder.ensures))
+returns-then-source-le-WINDOW-clause-rest c =
+    c.close.ensures.rest ∙ (rw c.close.ensures.end (all-rest c.append_short-encoder.ensures))
 
 -- no byte of this frame is a zero
 pub returns-then-source-le-WINDOW-clause-no_sentinel : goal.returns-then-source-le-WINDOW-clause-no_sentinel
