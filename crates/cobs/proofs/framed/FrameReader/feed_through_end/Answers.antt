@@ -26,9 +26,10 @@ pub returns-in-None-clause-none : goal.returns-in-None-clause-none
 returns-in-None-clause-none g c = λ p h.
     let t = c.in-None.ensures.takes.takes in
     -- the flag was right for p
-    let was = HasTaken-any _ _ _ p c.args.self.now.has_taken h in
-    (record { none_ended = rw t.len (sym (t.outcomes p h)); after = t.after p h; nothing_kept = refl },
-    c.is_unfinished-self.ensures.unfinished p was.flag h.phased.piece)
+    let was = HasTaken-any _ _ _ p c.args.self.now.has_taken h in (
+      record { none_ended = rw t.len (sym (t.outcomes p h)); after = t.after p h; nothing_kept = refl },
+      c.is_unfinished-self.ensures.unfinished p was.flag h.phased.piece,
+    )
 
 -- a piece ended: the facts of `ReportsFirst`, if the decoder had been fed p before
 pub returns-in-Some-clause-first : goal.returns-in-Some-clause-first

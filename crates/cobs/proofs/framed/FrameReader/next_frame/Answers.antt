@@ -12,7 +12,7 @@ returns-in-Some-clause-next g c =
     let e = c.in-Some.ensures in
     -- the bytes after the piece are kept
     let kept = left_of_range r.chunk r.start r.end c.in-Some.count
-        (omega (arith, e.within, length-take (r.end - r.start) (drop r.start r.chunk))) in
+    (omega (arith, e.within, length-take (r.end - r.start) (drop r.start r.chunk))) in
     ReadsNext-kept _ _ _ _ _ (λ p b. rw (e.same_chunk, e.same_start, e.same_end) (rw kept at (e.first p b))) e.idle
 
 -- before the first read
