@@ -75,11 +75,11 @@ module _ (law : StreamLaw) {view : View} {times : ℕ → Moment} {n : ℕ} {p b
     (s : ShowsBytes view times n p bytes gone read buffer phase before after tally clock) (rest : List ℕ) where
   -- the unended bytes with `rest` depend only on the unended bytes before `rest`
   left-on : unended (p ++ (bytes ++ rest)) ≡ unended (unended (p ++ bytes) ++ rest)
-  left-on = grind (arith, append_assoc)
+  left-on = ap unended (sym (append_assoc p bytes rest)) ∙ law.left (p ++ bytes) rest
 
   -- the outcomes with `rest` are those so far, and then those of the unended bytes and `rest`
   outcomes-on : stream_outcomes (p ++ (bytes ++ rest)) n ≡ stream_outcomes (p ++ bytes) n ++ stream_outcomes (unended (p ++ bytes) ++ rest) n
-  outcomes-on = grind (arith, append_assoc)
+  outcomes-on = ap (λ (t : List ℕ). stream_outcomes t n) (sym (append_assoc p bytes rest)) ∙ law.cut (p ++ bytes) rest n
 
   -- the pieces that have ended with `rest` are those so far, and then those of the unended bytes and `rest`
   pieces-on : all_ended (p ++ (bytes ++ rest)) n ≡ all_ended (p ++ bytes) n ++ all_ended (unended (p ++ bytes) ++ rest) n
@@ -119,7 +119,18 @@ module _ (law : StreamLaw) {view : View} {times : ℕ → Moment} {n : ℕ} {p b
   -- if no piece ends in the unended bytes and `rest`, the pieces that end in `bytes` and `rest` are shown already
   pub ShowsBytes-rest : {buffer' : List ℕ} {phase' : Phase} → length buffer' ≡ length buffer → DecoderAfter buffer' phase' (unended (unended (p ++ bytes) ++ rest)) → [] ≡ stream_outcomes (unended (p ++ bytes) ++ rest) (length buffer)
       → ShowsBytes view times n p (bytes ++ rest) gone read buffer' phase' before after tally clock
-  ShowsBytes-rest len taken reported = grind (arith, outcomes-on, append-nil, pieces-on, all_ended-none, left-on)
+  ShowsBytes-rest len taken reported =
+      let none : stream_outcomes (unended (p ++ bytes) ++ rest) n ≡ [] = rw s.len at (sym reported) in
+      -- with `rest`, the outcomes and the pieces that have ended are those so far
+      let outcomes = rw (none, append-nil) at outcomes-on in
+      let pieces = rw (all_ended-none _ _ none, append-nil) at pieces-on in
+      record {
+        written = rw pieces s.written;
+        taken = rw left-on taken;
+        tallied = rw outcomes s.tallied;
+        timed = rw outcomes s.timed;
+        len = len ∙ s.len;
+      }
 
 -- `length bytes - at` bytes from index `at` on are all bytes from `at` on
 rest-of : (at : ℕ) (bytes : List ℕ) → take (length bytes - at) (drop at bytes) ≡ drop at bytes
