@@ -98,8 +98,8 @@ row c w =
     let code : c.by_window.next + lowest c.copy_at-window.result - c.by_window.index ≡ c.by_window.next - c.by_window.index = omega arith in
     let written = rw (take_rest c.args.source.now c.by_window.read, code) at c.write_codes_of_zeros-zeros.ensures in
     let some = written.some (omega arith) zeros in
-    -- `row-taken`: The first zero closes the open block. Each other zero closes a block that consists of its code 1. The
-    -- last of the n ones is at the place of the next block's code.
+    -- `row-taken`: The first zero closes the open block. Each other zero closes a block that consists of its code 1.
+    -- The last of the n ones is at the place of the next block's code.
     (row-taken (w.copied.reaches) w.short fits c.write_codes_of_zeros-zeros.result some (omega arith) written.zeros written.written, some, omega arith)
 
 -- a window that has only zeros is taken, together with the zeros after it that `write_codes_of_zeros` has found (`row`)

@@ -1,5 +1,5 @@
--- Most clauses that are proved here are `fits`, `taken` and `rest`, as for `push`. For `fits`, the length of the frame of
--- all bytes so far is `end_after` (`after-end`), and `has_room` compares that index with the slice (`end-with`). An
+-- Most clauses that are proved here are `fits`, `taken` and `rest`, as for `push`. For `fits`, the length of the frame
+-- of all bytes so far is `end_after` (`after-end`), and `has_room` compares that index with the slice (`end-with`). An
 -- encoder that has taken a message has a possible state (`after-place`), so it takes a push of no bytes.
 use Rattle.std.proofs.Common.{append-nil, [], ◌≡◌, ◌≢◌, length, refl, arith}
 use Rattle.std.proofs.lemmas.Grind.{common_steps}
