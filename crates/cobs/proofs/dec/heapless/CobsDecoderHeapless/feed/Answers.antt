@@ -1,0 +1,11 @@
+-- Both clauses are those of the `feed` of the decoder `inner`, for the bytes of the vector. The search would find this
+-- too, but slowly.
+use Rattle.std.proofs.Common.{arith}
+use Rattle.std.proofs.lemmas.Grind.{common_steps}
+use Rattle.cobs.proofs.dec.heapless.CobsDecoderHeapless.feed.Goals as goal
+
+pub returns-clause-feeds : goal.returns-clause-feeds
+returns-clause-feeds g c = grind (arith, common_steps)
+
+pub returns-clause-by_table : goal.returns-clause-by_table
+returns-clause-by_table g c = grind (arith, common_steps)
