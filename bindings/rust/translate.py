@@ -71,8 +71,8 @@ REWORDED = {
     "CobsDecoder::new(&mut buffer); let rejected = PushError": "UnbufferedDecoder::new();\nlet rejected = PushError",
     "decoder.push(&[3, 7, 0, 2, 9, 0]), Err(rejected)": "decoder.push(&mut buffer, &[3, 7, 0, 2, 9, 0]), Err(rejected)",
     "Contracts describe a source by the relation `step`. `step before result after` holds if a read of a source in the state"
-    " `before` may have this result and leave the source in the state `after`. The result of a read is a failure, or the bytes that"
-    " the read returned.": "[`FrameReader::next_frame`] panics"
+    " `before` may have the result `result` and leave the source in the state `after`. The result of a read is either a failure or"
+    " the bytes that the read returned.": "[`FrameReader::next_frame`] panics"
     " if a read returns a number above 64.",
     " Contracts describe a reader by its decoder, and by the bytes that the reader has read but not yet fed to the decoder.": "",
     "Contracts describe a decoder by the bytes of its buffer and by its phase, that is, the facts that the decoder keeps about the"

@@ -1,9 +1,9 @@
 // Draws pictures of frames, as SVG text. The page and figures.mjs draw only with this module. It needs no DOM.
 //
 // A picture is a row of cells, one for each byte of the frame. Above each cell is the byte of the message that corresponds to the
-// cell: above a data byte the byte itself (XORed with the sentinel, which changes nothing for the sentinel 0), and above a code a
-// zero. Above the first code, and above a code after a full block, there is no byte. Below the cells an arc leads from each code to
-// the next one.
+// cell. For a data byte, this is the byte itself (XORed with the sentinel, which changes nothing for the sentinel 0). For a code, it
+// is a zero. Above the first code, and above a code after a full block, there is no byte. Below the cells, an arc leads from each
+// code to the next code.
 
 export const CELL = 32;          // width of a cell, in pixels
 export const ROW_HEIGHT = 100;   // height of a row with its arcs and a margin
@@ -236,8 +236,8 @@ export function rowPicture(piece, places, from, to, { sentinel = 0, margin = 58,
 }
 
 /**
- * Draws the overhead of frames for each length of the message: the greatest overhead, `most(length)`, as steps, and a dot for a
- * message of `length` bytes whose frame is `overhead` bytes longer.
+ * Draws the greatest overhead of a frame, `most(length)`, for each length of a message, as steps. Also draws a dot for a message of
+ * `length` bytes whose frame is `overhead` bytes longer than the message.
  */
 export function curve({ most, length, overhead }) {
   const [width, height, left, base] = [560, 150, 34, 118];

@@ -3,12 +3,12 @@
  *
  * A call throws:
  * - a TypeError if an argument must be `Bytes` and isn't, or if you pass an option that the call doesn't have;
- * - a RangeError if a `sentinel`, a `maxLength` or a length isn't one of the allowed numbers;
+ * - a RangeError if a `sentinel`, a `maxLength` or a length isn't an allowed number;
  * - an Error if the module isn't loaded.
  */
 
-// Some values of TypeScript's option `lib` don't declare these names. If `dom`, @types/node or a newer compiler declares them too,
-// the declarations here add nothing.
+// With some values of TypeScript's option `lib`, these names aren't declared elsewhere. If `dom`, @types/node or a newer compiler
+// declares them too, the declarations here add nothing.
 declare global {
   interface SymbolConstructor {
     readonly dispose: unique symbol;
@@ -49,8 +49,8 @@ export interface PieceOptions extends SentinelOptions {
 
 export interface DecoderOptions extends PieceOptions {
   /**
-   * Whether to skip all bytes up to and including the first sentinel. Use this option if the first bytes may be the rest of a
-   * frame. Default false.
+   * Whether to skip all bytes up to and including the first sentinel. Use this option if the stream may begin inside a frame.
+   * Default false.
    */
   skipFirst?: boolean;
 }
@@ -81,23 +81,25 @@ export class CobsError extends Error {
 export function isSupported(): boolean;
 
 /**
- * Loads the module. Every call except `isSupported` needs the module. Without an argument, `load` loads the module that comes with
- * this file. Once the module is loaded, or is being loaded, a further call of `load` changes nothing and returns the same promise.
- * If the module can't be loaded, the promise is rejected with a CobsError "unsupported", or with the error of the source, for
- * example of `fetch`. After that, `load` can be called again.
+ * Loads the module. Every call except `isSupported` needs the module. Without an argument, `load` loads the module that comes
+ * with this file. Once the module is loaded, or is being loaded, a further call of `load` changes nothing and returns the same
+ * promise. If the module can't be loaded, the promise is rejected with a CobsError "unsupported", or with the error that occurred
+ * when the source was read, for example an error of `fetch`. After that, `load` can be called again.
  */
 export function load(source?: Source): Promise<void>;
 
 /**
  * Loads the module synchronously, for a program that can't wait for a promise. Without an argument, `loadSync` loads the module
- * that comes with this file. Once the module is loaded, a further call changes nothing. On a page, outside of a worker, Chrome
- * allows this call from version 115 on.
- * @throws CobsError "unsupported", or the error of the source
+ * that comes with this file. Once the module is loaded, a further call changes nothing. On a page, outside of a worker, this call
+ * needs Chrome 115 or later.
+ *
+ * @throws CobsError "unsupported", or the error that occurred when the source was read
  */
 export function loadSync(source?: Bytes | WebAssembly.Module): void;
 
 /**
- * Returns the length of the longest frame of a message of this many bytes, without sentinels.
+ * Returns the length of the longest frame that a message of `length` bytes can have, not counting sentinels.
+ *
  * @throws RangeError if `length` isn't an integer, or is negative
  */
 export function maxEncodedLength(length: number): number;
@@ -106,27 +108,30 @@ export function maxEncodedLength(length: number): number;
 export function encode(message: Bytes, options?: EncodeOptions): Uint8Array;
 
 /**
- * Encodes a message to the front of `dest`, and returns the frame's length. The bytes of `dest` after the frame aren't changed.
- * @throws RangeError if the frame doesn't fit; `dest` is then as it was
+ * Encodes a message to the front of `dest`, with a sentinel after the frame if `terminated` is true. Returns how many bytes the
+ * call has written. The bytes of `dest` after them aren't changed.
+ *
+ * @throws RangeError if the bytes to write don't fit; in this case `dest` isn't changed
  */
 export function encodeInto(message: Bytes, dest: Bytes, options?: EncodeOptions): number;
 
 /**
  * Returns the message of the first frame. Leading sentinels are skipped, and the frame ends at the next sentinel or at
  * the last byte. The bytes after that sentinel are ignored.
+ *
  * @throws CobsError "empty" or "broken"
  */
 export function decode(frame: Bytes, options?: SentinelOptions): Uint8Array;
 
 /**
- * Returns "canonical" for a frame that `encode` returns, "longer" for a frame with a needless last block 01, and "notAFrame" for
- * bytes that aren't a frame. Pass the bytes without the sentinels before and after them.
+ * Returns "canonical" for a frame that `encode` returns, "longer" for a frame that ends in a needless block 01, and "notAFrame"
+ * for bytes that aren't a frame. Pass the bytes without the sentinels before and after them.
  */
 export function frameKind(frame: Bytes, options?: SentinelOptions): "canonical" | "longer" | "notAFrame";
 
 /**
- * Returns an iterator over the outcomes of the pieces of `bytes`. The member `end` of an outcome is the index in `bytes` after the
- * sentinel of the piece. Bytes after the last sentinel have no outcome.
+ * Returns an iterator over the outcomes of the pieces of `bytes`. The property `end` of an outcome is the index in `bytes` right
+ * after the sentinel of the piece. Bytes after the last sentinel have no outcome.
  */
 export function frames(bytes: Bytes, options?: DecoderOptions): IterableIterator<Outcome & { end: number }>;
 
@@ -134,10 +139,11 @@ export function frames(bytes: Bytes, options?: DecoderOptions): IterableIterator
 export class FrameDecoder {
   constructor(options?: DecoderOptions);
   /**
-   * Decodes a chunk, and calls `visit` for each piece that ends in the chunk; `end` is the index in the chunk after the sentinel
-   * of the piece. If `visit` closes the decoder, `push` doesn't call `visit` again. If `visit` throws an error, `push` decodes the
-   * rest of the chunk without calling `visit`, and then throws this error. So the next chunk is decoded as if `visit` had thrown
-   * nothing.
+   * Decodes a chunk, and calls `visit` for each piece that ends in the chunk. `end` is the index in the chunk right after the
+   * sentinel of the piece. If `visit` closes the decoder, `push` doesn't call `visit` again. If `visit` throws an error, `push`
+   * decodes the rest of the chunk without calling `visit`, and then throws this error. So the next chunk is decoded as if `visit`
+   * had thrown nothing.
+   *
    * @throws Error if the decoder is closed, or if `visit` calls `push`
    */
   push(chunk: Bytes, visit: (outcome: Outcome, end: number) => void): void;
@@ -156,6 +162,7 @@ export class FrameEncoder {
   constructor(options?: PieceOptions);
   /**
    * Adds bytes to the message.
+   *
    * @throws RangeError if the message would become longer than `maxLength`; in this case no byte is added
    * @throws Error if the encoder is closed
    */
@@ -164,6 +171,7 @@ export class FrameEncoder {
   get length(): number;
   /**
    * Ends the message and returns its frame, with a sentinel after it if `terminated` is true. The next `push` begins another message.
+   *
    * @throws Error if the encoder is closed
    */
   finish(options?: { terminated?: boolean }): Uint8Array;

@@ -1,11 +1,11 @@
-// Consistent Overhead Byte Stuffing for the browser and Node, over the proved code in cobs.wasm.
+// Implements Consistent Overhead Byte Stuffing for browsers and Node with the proved code in cobs.wasm.
 //
 //     import { load, encode, decode, FrameDecoderStream } from "./jcobs.js";
 //     await load();
 //     const frame = encode(Uint8Array.of(10, 11, 0, 12));            // 3 10 11 2 12
 //     const frames = port.readable.pipeThrough(new FrameDecoderStream({ maxLength: 4096 }));
 //
-// This file copies bytes into the module's memory, and results out of that memory. Only the module decides which bytes a
+// This file copies bytes into the module's memory, and copies results out of that memory. Only the module decides which bytes a
 // frame has, and which messages a stream has.
 import { BROKEN, CHUNK_SIZE, CobsError, KINDS, NEAR, OK, STATE_SIZE, TOO_SMALL, bytesOf, loaded, machineFor } from "./machine.js";
 
@@ -41,15 +41,16 @@ const ENCODING = { sentinel: 0, terminated: false };
 const STREAM = { maxLength: 65536, sentinel: 0, skipFirst: false };
 const PIECEWISE = { maxLength: 65536, sentinel: 0 };
 
-/** Returns the length of the longest frame of a message of `length` bytes, without sentinels. */
+/** Returns the length of the longest frame that a message of `length` bytes can have, not counting sentinels. */
 export function maxEncodedLength(length) {
   if (!Number.isSafeInteger(length) || length < 0) throw new RangeError("the length must be an integer, 0 or more");
   return loaded().machine.maxLength(length);
 }
 
 /**
- * Returns a length that is enough for the frame of a message of `length` bytes and its sentinel. A frame is at least one byte
- * longer than its message, and each 254 bytes of the message can add one byte. This length allows one byte for each 128 bytes.
+ * Returns a length that is enough for the frame of a message of `length` bytes, and for a sentinel after the frame. A frame is at
+ * least one byte longer than its message, and each 254 bytes of the message can add one more byte. The returned length has room
+ * for one more byte for each 128 bytes.
  */
 const roomFor = (length) => length + Math.floor(length / 128) + 2;
 
@@ -64,7 +65,10 @@ export function encode(message, options) {
   return machine.read(at, length);
 }
 
-/** Encodes a message to the front of `dest` and returns the frame's length. If the frame doesn't fit, `dest` isn't changed. */
+/**
+ * Encodes a message to the front of `dest`, with a sentinel after the frame if `terminated` is true. Returns how many bytes the call
+ * has written. If these bytes don't fit, `dest` isn't changed.
+ */
 export function encodeInto(message, dest, options) {
   const front = bytesOf(dest);
   const { sentinel, terminated } = optionsOf(options, ENCODING);
@@ -94,7 +98,7 @@ export function decode(frame, options) {
   throw new CobsError("empty", "there is no frame to decode: there are no bytes, or only sentinels");
 }
 
-/** Returns "canonical" for a frame that `encode` returns, "longer" for a frame with a needless last block 01, otherwise "notAFrame". */
+/** Returns "canonical" for a frame that `encode` returns, "longer" for a frame that ends in a needless block 01, and otherwise "notAFrame". */
 export function frameKind(frame, options) {
   const bytes = bytesOf(frame);
   const { sentinel } = optionsOf(options, DECODING);
@@ -106,8 +110,8 @@ export function frameKind(frame, options) {
 const abandoned = typeof FinalizationRegistry === "function" ? new FinalizationRegistry(({ arena, place }) => arena.give(place)) : null;
 
 /**
- * A place in the shared memory for a state, a chunk and a buffer. `close` frees the place. Garbage collection of the owner, a
- * decoder or an encoder, also frees the place.
+ * A place in the shared memory for a state, a chunk and a buffer. `close` frees the place. If the owner of the place, a decoder
+ * or an encoder, is garbage-collected, the place is freed too.
  */
 class Held {
   #place;
@@ -164,10 +168,10 @@ export class FrameDecoder {
   }
 
   /**
-   * Decodes a chunk, and calls `visit(outcome, end)` for each piece that ends in the chunk; `end` is the index in the chunk after
-   * the sentinel of the piece. If `visit` closes the decoder, `push` doesn't call `visit` again. If `visit` throws an error, `push`
-   * decodes the rest of the chunk without calling `visit`, and then throws this error. So the next chunk is decoded as if `visit`
-   * had thrown nothing.
+   * Decodes a chunk, and calls `visit(outcome, end)` for each piece that ends in the chunk. `end` is the index in the chunk right
+   * after the sentinel of the piece. If `visit` closes the decoder, `push` doesn't call `visit` again. If `visit` throws an
+   * error, `push` decodes the rest of the chunk without calling `visit`, and then throws this error. So the next chunk is decoded
+   * as if `visit` had thrown nothing.
    */
   push(chunk, visit) {
     if (!this.#held.isOpen || this.#isClosing) throw new Error("the decoder is closed");
@@ -233,8 +237,8 @@ export class FrameDecoder {
 }
 
 /**
- * Returns an iterator over the outcomes of the pieces of `bytes`. The member `end` of an outcome is the index in `bytes` after the
- * sentinel of the piece.
+ * Returns an iterator over the outcomes of the pieces of `bytes`. The property `end` of an outcome is the index in `bytes` right
+ * after the sentinel of the piece.
  */
 export function frames(bytes, options) {
   const view = bytesOf(bytes);
@@ -316,16 +320,16 @@ export class FrameEncoder {
 }
 
 /**
- * Makes the two ends of a stream, `readable` and `writable`, like those of a TransformStream. `take` is called with
- * each chunk and a function `give`, to which `take` passes each result. `close` is called once, however the stream ends.
- * A TransformStream isn't enough: some engines don't tell its transformer that the stream was cancelled or aborted.
+ * Makes the two ends of a stream, `readable` and `writable`, like those of a TransformStream. `take` is called with each chunk
+ * and a function `give`, to which `take` passes each result. `close` is called once, however the stream ends. A TransformStream
+ * isn't enough, because some engines don't inform its transformer when the stream is cancelled or aborted.
  */
 function ends(take, close) {
   const link = { take, close, out: null, into: null, wake: () => {}, isWanted: false, isOver: false, reason: undefined };
   return { readable: readableOf(link), writable: writableOf(link) };
 }
 
-/** Makes the stream fail for this reason. `end` is the controller of the stream's end (readable or writable) that gets the reason. */
+/** Makes the stream fail for this reason. `end` is the controller of the end, readable or writable, to which the reason is passed. */
 function fail(link, end, reason) {
   if (link.isOver) return;
   link.isOver = true;
@@ -351,7 +355,7 @@ function writableOf(link) {
   return new WritableStream({
     start(controller) {
       link.into = controller;
-      // the engine calls `abort` below only after the write under way, which may be waiting for a reader
+      // the engine calls `abort` below only after the current write has ended, and this write may be waiting for a reader
       const { signal } = controller;
       signal?.addEventListener("abort", () => fail(link, link.out, signal.reason));
     },

@@ -1,19 +1,20 @@
 #!/usr/bin/env python3
-"""Gives a WebAssembly module with 64-bit memory a 32-bit one, which every browser has: lower.py FILE
+"""Gives a WebAssembly module with a 64-bit memory a 32-bit memory instead, which every browser supports: lower.py FILE
 
-The types of functions, variables and globals stay, so addresses stay 64-bit numbers. What changes is the instructions that
-use one:
+The types of functions, variables and globals stay the same, so addresses stay 64-bit numbers. The script changes only these
+parts of the module:
 
-- before a load, `i32.wrap_i64` makes the address on the stack a 32-bit number;
-- for a store it does so as soon as the address is on the stack, which is before the value; if it isn't known which
-  instructions make the value, a variable of the function holds the value meanwhile;
-- memory.copy and memory.fill get 32-bit addresses and lengths by such variables;
-- the memory itself, and the address of each piece of data.
+- Before a load, `i32.wrap_i64` turns the address on the stack into a 32-bit number.
+- For a store, `i32.wrap_i64` comes as soon as the address is on the stack, before the instructions that make the value. If it
+  isn't known which instructions make the value, `i32.wrap_i64` comes after the value: a new variable of the function then
+  holds the value while the address is changed.
+- For memory.copy and memory.fill, the addresses and the length become 32-bit numbers, with the help of such variables.
+- The memory itself gets 32-bit addresses, and so does each piece of data.
 
-An address below 4 GiB is the same number in 32 bits, so an access within a memory of at most 4 GiB reads and writes what it
-did. One outside of it, which a 64-bit memory traps, may not trap here: jcobs.js gives out no place beyond 4 GiB. Nothing
-else is changed. An offset of 2 GiB or more, a memory with a maximum, and instructions that ask for the memory's size or
-make it longer are errors."""
+An address below 4 GiB is the same number in 32 bits. So an access within a memory of at most 4 GiB reads or writes the same
+bytes as before. An access outside of the memory traps in a 64-bit memory, but may not trap in the 32-bit memory. So machine.js
+passes no address beyond 4 GiB to the module: it throws an error instead. The script reports an error for an offset of 2 GiB
+or more, for a memory with a maximum, and for an instruction that returns or changes the size of the memory."""
 import sys
 from pathlib import Path
 
@@ -26,7 +27,8 @@ WRAP = bytes([0xA7])  # i32.wrap_i64
 I32_STORES, FLOAT_STORES = {0x36, 0x3A, 0x3B}, {0x38, 0x39}
 FAR = 1 << 31
 
-# How many values an instruction takes off the stack and leaves on it. One that isn't here branches, calls, or ends a block.
+# How many values an instruction removes from the stack, and how many it puts on the stack. An instruction that isn't listed
+# branches, calls, or ends a block.
 STACK = dict.fromkeys([0x20, 0x23, I32_CONST, I64_CONST], (0, 1))  # local.get, global.get
 STACK |= dict.fromkeys([0x1A, 0x21, 0x24], (1, 0))  # drop, local.set, global.set
 STACK |= dict.fromkeys([0x22, *LOADS], (1, 1))  # local.tee
@@ -45,8 +47,8 @@ def taken_back(variable):
 
 
 class Narrowing:
-    """The instructions of a function as they become. For the topmost values of the stack, `starts` has where in `code` the
-    instructions begin that make each."""
+    """The changed instructions of a function. For each of the topmost values of the stack, `starts` has the index in `code` at
+    which the instructions that make the value begin."""
 
     def __init__(self, first):
         self.narrow, self.second, self.wide = first, first + 1, first + 2  # new variables, of 32, 32 and 64 bits
@@ -63,7 +65,7 @@ class Narrowing:
         elif each.code in STORES:
             self.narrow_below(self.narrow if each.code in I32_STORES else self.wide)
         elif each.code == PREFIX:
-            # the addresses to and from, or the address and a byte; on top of them the length
+            # the stack has the two addresses, or the address and a byte, and on top of them the length
             self.code += [WRAP, put_by(self.narrow)] + ([WRAP] if each.which == COPY else [])
             self.narrow_below(self.second)
             self.code.append(taken_back(self.narrow))
@@ -71,12 +73,12 @@ class Narrowing:
         self.follow(STACK.get(each.code), start)
 
     def narrow_below(self, variable):
-        """Makes the value under the topmost one a 32-bit number."""
+        """Turns the value below the topmost value of the stack into a 32-bit number."""
         self.code += [put_by(variable), WRAP, taken_back(variable)]
         self.needs_variables = True
 
     def follow(self, counts, start):
-        """Keeps `starts` true after an instruction with these counts, of which the code begins at `start`."""
+        """Updates `starts` after an instruction whose code begins at `start`. `counts` are its counts in STACK."""
         if counts is None or counts[0] > len(self.starts):
             self.starts = []
             return
@@ -87,7 +89,7 @@ class Narrowing:
 
 
 def lowered(body, parameters):
-    """Returns the body of a function with so many parameters, with 32-bit addresses."""
+    """Returns the body of a function, changed to use 32-bit addresses. The function has `parameters` parameters."""
     groups, at = variables(body)
     narrowing = Narrowing(parameters + sum(size for size, _ in groups))
     for each in instructions(body, at):
@@ -120,7 +122,7 @@ def memory_of(section):
 
 
 def data_of(section):
-    """Returns the pieces of data, each `0, i64.const ADDRESS, end, LENGTH, BYTES`, with i32.const."""
+    """Returns the pieces of data with `i32.const`. In `section` each piece is `0, i64.const ADDRESS, end, LENGTH, BYTES`."""
     pieces = []
     count, at = number(section, 0)
     for _ in range(count):

@@ -1,5 +1,5 @@
-// Loads the proved module, makes its calls, and keeps track of the free places in its memory. Only this file uses the names that
-// the module exports. jcobs.js has the calls of a user.
+// Loads the proved module, calls its functions, and keeps track of the free places in its memory. Only this file uses the names
+// that the module exports. jcobs.js has the calls that users make.
 
 // enum jcobs_status and enum jcobs_kind of jcobs.h
 export const OK = 0;
@@ -13,7 +13,7 @@ const SCRATCH_SIZE = 1 << 22;        // bytes of memory for a call; a call that 
 export const STATE_SIZE = 64;        // bytes for a jcobs_decoder or a jcobs_encoder
 export const CHUNK_SIZE = 1 << 14;          // how many bytes of a stream are copied into the module at a time
 export const NEAR = 1024;             // a call of at most this many bytes is short; the results of short calls have a fixed place
-const LONG = 4096;                   // a result of at least this many bytes isn't copied by `slice`
+const LONG = 4096;                   // a result of at least this many bytes isn't copied with `slice`
 const MEMORY_LIMIT = 2 ** 32;        // the first address that doesn't fit in the module's 32 bits
 
 /** The names that cobs.wasm exports. */
@@ -45,7 +45,7 @@ export class CobsError extends Error {
 
 const SMALL = Array.from({ length: NEAR + 64 }, (_, number) => BigInt(number));
 
-/** Returns a number as a BigInt, for the module. Making a BigInt costs more than a short call, so those of small numbers are kept. */
+/** Returns a number as a BigInt, for the module. Making a BigInt costs more than a short call, so the BigInts of small numbers are kept. */
 const word = (number) => (number < SMALL.length ? SMALL[number] : BigInt(number));
 
 /** An instance of the module, with calls whose arguments are addresses in its memory. */
@@ -84,7 +84,7 @@ class Machine {
     this.#see();
   }
 
-  /** Copies bytes to an address, and XORs each with the sentinel. */
+  /** Copies bytes to an address, and XORs each copied byte with the sentinel. */
   write(bytes, at, sentinel = 0) {
     const memory = this.#bytes;
     memory.set(bytes, at);
@@ -93,7 +93,7 @@ class Machine {
 
   /** Returns a copy of the bytes at an address. */
   read(at, length) {
-    // the constructor copies many bytes in half the time of `slice`, because `slice` first clears the copy
+    // the constructor copies many bytes in half the time that `slice` needs, because `slice` first clears the copy
     if (length < LONG) return this.#bytes.slice(at, at + length);
     return new Uint8Array(this.#bytes.subarray(at, at + length));
   }
@@ -165,20 +165,20 @@ class Machine {
     };
   }
 
-  /** Returns the jcobs_answer of the last call: a number of 32 bits, and after it two of 64 bits, each with its low half first. */
+  /** Returns the jcobs_answer of the last call: a 32-bit number, followed by two 64-bit numbers, each with its low half first. */
   #answer() {
     const words = this.#words;
     return { status: words[0], consumed: words[2] + words[3] * 0x100000000, length: words[4] + words[5] * 0x100000000 };
   }
 }
 
-/** A small module with a function that copies within its memory, which is the newest feature of WebAssembly that cobs.wasm uses. */
+/** A small module with a function that copies within its memory. Such copying is the newest feature of WebAssembly that cobs.wasm uses. */
 const PROBE = Uint8Array.of(
   ...[0, 0x61, 0x73, 0x6d, 1, 0, 0, 0, 1, 4, 1, 0x60, 0, 0, 3, 2, 1, 0, 5, 3, 1, 0, 1],
   ...[10, 14, 1, 12, 0, 0x41, 0, 0x41, 0, 0x41, 0, 0xfc, 10, 0, 0, 0x0b],
 );
 
-/** Returns the reason why cobs.wasm doesn't run here, or "" if it does. */
+/** Returns the reason why cobs.wasm doesn't run here, or "" if it does run. */
 function obstacle() {
   const hasAll = typeof WebAssembly === "object" && typeof BigInt64Array === "function" && WebAssembly.validate(PROBE);
   if (!hasAll) return "this engine lacks the WebAssembly that cobs.wasm needs, which browsers have since 2021 and Node since 16";
@@ -202,7 +202,7 @@ let loading;
  * except `isSupported` needs the module. Once the module is loaded, or is being loaded, a further call changes nothing.
  */
 export function load(source) {
-  // moduleAddress() isn't a default of the parameter: in dist/ it decodes the whole module, which should happen only once
+  // moduleAddress() isn't the parameter's default value, because in dist/ it decodes the whole module, and should do so only once
   loading ??= loadFrom(source === undefined ? moduleAddress() : source).catch((error) => {
     loading = undefined;
     throw error;
@@ -232,7 +232,7 @@ async function loadFrom(source) {
   demandSupport();
   const module = await moduleOf(source);
   demandCalls(module);
-  // not `new WebAssembly.Instance`, which Chrome before version 115 doesn't allow on its main thread for a module of this size
+  // `new WebAssembly.Instance` isn't used: Chrome before version 115 doesn't allow it on the main thread for a module of this size
   const instance = await WebAssembly.instantiate(module, {});
   if (!shared) keep(module, instance);
 }
@@ -249,7 +249,7 @@ function keep(module, instance) {
 }
 
 async function moduleOf(given) {
-  const source = await given; // `given` may be a promise, for example that of `fetch`
+  const source = await given; // `given` may be a promise, for example the one that `fetch` returns
   if (source instanceof WebAssembly.Module) return source;
   if (isBytes(source)) return WebAssembly.compile(bytesOf(source));
   if (typeof Response === "function" && source instanceof Response) return WebAssembly.compile(await bytesOfResponse(source));
@@ -261,7 +261,7 @@ async function moduleOf(given) {
   return WebAssembly.compile(files ? await files.promises.readFile(url) : await bytesOfResponse(await fetch(url)));
 }
 
-/** Returns Node's module `fs` for the address of a file. The module isn't imported, because bundlers for browsers can't resolve it. */
+/** Returns Node's module `fs` if `url` is the address of a file. The module isn't imported, because bundlers for browsers can't resolve it. */
 const filesFor = (url) => (url.protocol === "file:" ? globalThis.process?.getBuiltinModule?.("node:fs") : undefined);
 
 /** Returns the bytes of the file at an address. Only Node can read a file without a promise. */
@@ -344,7 +344,7 @@ export function machineFor(size) {
   return own;
 }
 
-const isBuffer = (source) => /^\[object (Shared)?ArrayBuffer\]$/.test(Object.prototype.toString.call(source)); // `instanceof` is false for an ArrayBuffer of another frame
+const isBuffer = (source) => /^\[object (Shared)?ArrayBuffer\]$/.test(Object.prototype.toString.call(source)); // `instanceof` is false for an ArrayBuffer that another window or iframe made
 const isBytes = (source) => ArrayBuffer.isView(source) || isBuffer(source);
 
 /** Returns the bytes of an ArrayBuffer or of any view of one. */
@@ -358,11 +358,11 @@ export function bytesOf(source) {
   throw new TypeError("bytes must be a Uint8Array, another view, or an ArrayBuffer");
 }
 
-/** Returns whether a view has lost its bytes. Its length is then 0, like the length of an empty view. */
+/** Returns whether a view has lost its bytes. The length of such a view is 0, like the length of an empty view. */
 function isGone(view) {
   try {
     if ("length" in view && view.length === 0) Uint8Array.prototype.indexOf.call(view, 0); // throws for a view that is out of bounds
-    return view.byteLength < 0; // which throws for such a DataView
+    return view.byteLength < 0; // throws for such a DataView
   } catch {
     return true;
   }

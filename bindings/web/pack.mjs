@@ -1,10 +1,10 @@
-// Writes jcobs.js, machine.js and cobs.wasm as one file each for `import` and for `require` or a <script>:
+// Writes jcobs.js, machine.js and cobs.wasm as one file for `import`, and as another file for `require` and for a <script>:
 //
 //     node pack.mjs FOLDER        # FOLDER/jcobs.js, FOLDER/jcobs.cjs, the types of the second, and the files below
 //
-// In Node, `import` gets node.js, which exports jcobs.cjs, so a program has one module even if it uses `import` and `require`. auto.js,
-// auto.cjs and auto.node.js load the module themselves. serialport.cjs is serialport.js for `require`. integrity.json has the hashes
-// for a <script> from another host.
+// In Node, `import` gets node.js, which exports jcobs.cjs. So a program has only one module, even if it uses both `import` and
+// `require`. auto.js, auto.cjs and auto.node.js load the module themselves. serialport.cjs is serialport.js for `require`.
+// integrity.json has the hashes for a <script> from another host.
 //
 // Only the lines that import, export or find cobs.wasm are changed. If one of these lines isn't as this script expects it, the script fails.
 import { createHash } from "node:crypto";

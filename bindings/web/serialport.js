@@ -1,4 +1,4 @@
-// COBS as streams of Node, which can be piped from and to a port of the package serialport:
+// Offers COBS as streams of Node. They can be piped from and to a port of the package serialport:
 //
 //     port.pipe(new FrameDecoderTransform({ skipFirst: true })).on("data", ({ message }) => ..);
 import { Transform } from "node:stream";

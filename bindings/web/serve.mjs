@@ -29,8 +29,8 @@ async function answer(request, response, folders) {
 }
 
 /**
- * Starts serving, and returns the server and its address. Port 0 is any free one. `folders` are others, by their names. `host`
- * is the address to listen on: "127.0.0.1" is this computer, "0.0.0.0" all of its networks.
+ * Starts serving, and returns the server and its address. Port 0 means any free port. `folders` are more folders to serve, each
+ * with its name. `host` is the address to listen on: "127.0.0.1" means only this computer, and "0.0.0.0" means all its networks.
  */
 export async function serve(port = 0, folders = {}, host = "127.0.0.1") {
   const server = createServer((request, response) => answer(request, response, folders).catch(() => response.destroy()));

@@ -180,7 +180,7 @@ static size_t jcobs_max_overhead(size_t message_len)
     return message_len / JCOBS_FULL_BLOCK_BYTES + (message_len % JCOBS_FULL_BLOCK_BYTES != 0 ? 1 : 0);
 }
 
-/* Returns the length of the longest frame of a message of message_len bytes, or 0 if the frame's length doesn't
+/* Returns the length of the longest encoded frame of a message of message_len bytes, or 0 if this length doesn't
  * fit the type of the result.
  * Proved, by the contract in encode.rt: the result is this length if it is below 2 to the 64th, and 0 otherwise. */
 size_t jcobs_max_length(size_t message_len)
@@ -390,8 +390,8 @@ static size_t jcobs_write_in_place(unsigned char *buffer, size_t buffer_size, si
 }
 
 /* Encodes a message of message_len bytes in place. The message begins at index JCOBS_MAX_OVERHEAD(message_len) of
- * the buffer. The frame is written to the front of the buffer. If the longest frame of a message of this length
- * doesn't fit the buffer, nothing is written.
+ * the buffer. The frame is written to the front of the buffer. If the longest encoded frame of a message of this
+ * length doesn't fit the buffer, nothing is written.
  * Proved, by the contract in encode.rt: if the longest frame fits, the buffer begins with the frame of the
  * message, and the bytes after this frame are as they were. Otherwise the status is TOO_SMALL, and the buffer is
  * as it was. */
@@ -492,7 +492,7 @@ static JCOBS_INLINE jcobs_piece jcobs_decode_piece(const unsigned char *source, 
     return jcobs_ended_piece(written, missing, at);
 }
 
-/* Decodes the first frame of the source to the front of `message`.
+/* Decodes the first frame of the source, and writes the message to the front of `message`.
  * Proved, by the contract in decode.rt: the result and the written bytes are those that the definition of COBS
  * gives for the source and message_size, and all other bytes of the buffer are as they were. A buffer as long as
  * the source is never too small. */
@@ -535,10 +535,10 @@ static JCOBS_APART size_t jcobs_length_to_zero(const unsigned char *bytes, size_
     return len - rest_len;
 }
 
-/* Decodes the first frame_len bytes of the buffer as one frame, in the buffer itself and one byte at a time.
- * Returns the message's length in bytes. The message is then at the front of the buffer, and every byte after the
- * message is as it was. No byte of the frame is a zero. If the last block is cut off, it returns JCOBS_END_BROKEN,
- * with the length of the output of the blocks before it. */
+/* Decodes the first frame_len bytes of the buffer in place, as one frame and one byte at a time. Returns the
+ * message's length in bytes. The message is then at the front of the buffer, and every byte after the message is
+ * unchanged. No byte of the frame is a zero. If the last block is cut off, it returns JCOBS_END_BROKEN, with the
+ * length of the output of the blocks before it. */
 static JCOBS_APART jcobs_end jcobs_decode_blocks(unsigned char *buffer, size_t frame_len)
 {
     size_t read = 0;
@@ -628,7 +628,7 @@ static enum jcobs_kind jcobs_kind_by_blocks(const unsigned char *bytes, size_t l
     return JCOBS_NOT_A_FRAME;
 }
 
-/* Returns the kind of the bytes: a frame that encoders write, another frame, or no frame.
+/* Returns whether the bytes are a frame that encoders write, another frame, or no frame.
  * Proved, by the contract in kind.rt: the result is NOT_A_FRAME if and only if the bytes aren't a frame, and
  * CANONICAL if and only if they are a frame that encoders write. */
 unsigned int jcobs_frame_kind(const void *bytes, size_t len)
@@ -765,8 +765,8 @@ static JCOBS_INLINE jcobs_piece jcobs_decoder_take_bytes(jcobs_decoder *decoder,
     return jcobs_make_piece(JCOBS_END_NONE, 0, 0);
 }
 
-/* Returns the number of decoded bytes of the open piece that are in the buffer. The buffer has buffer_size bytes.
- * Even if the decoder's state is corrupt, the number is at most buffer_size. */
+/* Returns how many decoded bytes of the open piece are in the buffer. The buffer has buffer_size bytes. Even if
+ * the decoder's state is corrupt, the number is at most buffer_size. */
 static JCOBS_INLINE size_t jcobs_decoder_length(const jcobs_decoder *decoder, size_t buffer_size)
 {
     if (decoder->too_long != 0) {
@@ -775,9 +775,9 @@ static JCOBS_INLINE size_t jcobs_decoder_length(const jcobs_decoder *decoder, si
     return jcobs_min(decoder->written, buffer_size);
 }
 
-/* Returns the result of a call with `len` bytes of the stream and a buffer of buffer_size bytes. If a piece has
- * ended in these bytes, `piece` says how the piece ended, and how many bytes there are up to and including the
- * zero that ended it. */
+/* Returns the result of a call that was passed `len` bytes of the stream and a buffer of buffer_size bytes. If a
+ * piece has ended in these bytes, `piece` says how the piece ended, and how many bytes there are up to and
+ * including the zero that ended it. */
 static JCOBS_INLINE jcobs_answer jcobs_decoder_answer(const jcobs_decoder *decoder, jcobs_piece piece, size_t len,
                                                       size_t buffer_size)
 {
@@ -833,7 +833,8 @@ static JCOBS_RARE jcobs_answer jcobs_decoder_feed_zero(jcobs_decoder *decoder, u
     return jcobs_decoder_answer(decoder, piece, 1, buffer_size);
 }
 
-/* Decodes the next byte of the stream. The contract is the same as for a jcobs_decoder_push of this byte.
+/* Decodes the next byte of the stream. The contract is the same as for a call of jcobs_decoder_push with this
+ * byte.
  * Proved, by the contract in decoder.rt: the result, the state and the buffer are those that the definition of the
  * stream gives after these bytes, however the stream is divided among calls. In every state consumed is at most
  * the number of bytes passed, and length is at most buffer_size. */
@@ -963,7 +964,7 @@ static jcobs_answer jcobs_encoder_feed_byte(jcobs_encoder *encoder, unsigned cha
     return jcobs_ok_answer(1, jcobs_encoder_append_byte(encoder, buffer, byte));
 }
 
-/* Encodes the next byte of a message. The contract is the same as for a jcobs_encoder_push of this byte.
+/* Encodes the next byte of a message. The contract is the same as for a call of jcobs_encoder_push with this byte.
  * Proved, by the contract in encoder.rt: the status is OK if and only if the frame of the message so far,
  * including these bytes, fits. If the status isn't OK, the state and the buffer are as they were. In every state
  * consumed is at most the number of bytes passed, and length is at most buffer_size. */
@@ -1010,7 +1011,8 @@ static jcobs_frame_length jcobs_encoder_close(jcobs_encoder *encoder, unsigned c
  * as they were. */
 jcobs_answer jcobs_encoder_finish(jcobs_encoder *encoder, void *buffer, size_t buffer_size)
 {
-    /* No frame fits an empty buffer. Without this test, a corrupt state could end in a frame of 0 bytes. */
+    /* No frame fits an empty buffer. Without this test, the call could return a frame of 0 bytes if the state is
+     * corrupt. */
     if (buffer_size == 0) {
         return jcobs_too_small_answer();
     }

@@ -17,8 +17,8 @@ use crate::dec::{DecodeError, UnbufferedDecoder};
 /// An item of the stream is a message, or the error that [`MessageReader`](crate::MessageReader) would return for a
 /// frame that is broken or too long. Such a frame never affects another frame. If the source returns an error, the
 /// stream returns this error and ends. If the source ends inside a frame, the stream returns
-/// [`UnexpectedEof`](ErrorKind::UnexpectedEof) and ends. The sink sends the frame of each message, and then a zero. The
-/// crate `cobs` doesn't have this type.
+/// [`UnexpectedEof`](ErrorKind::UnexpectedEof) and ends. For each message, the sink sends the frame of the message, and
+/// then a zero. The crate `cobs` doesn't have this type.
 ///
 /// ```
 /// use bytes::BytesMut;

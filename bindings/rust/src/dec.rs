@@ -1,4 +1,5 @@
-//! Functions that decode frames. They have the signatures of the crate `cobs`, and call the proved functions.
+//! Defines the functions that decode frames. These functions have the signatures of the crate `cobs`, and call the
+//! proved functions.
 
 mod decoder;
 
@@ -43,7 +44,8 @@ impl From<PushError> for DecodeError {
 }
 
 impl PieceEnd {
-    /// Returns the length of the piece's message, or the error that a decoder returns for a piece that ended like this.
+    /// Returns the length of the piece's message, or the error that a decoder returns for a piece that ended in this
+    /// way.
     ///
     /// ```
     /// use jcobs::{DecodeError, PieceEnd};
@@ -105,8 +107,8 @@ pub type DecodingResult = DecodeReport;
 ///
 /// - [`DecodeError::EmptyFrame`]: `source` is empty.
 /// - [`DecodeError::InvalidFrame`]: the frame breaks off inside a block. Then `dest` begins with the output of the
-///   frame, and `decoded_bytes` is the length of this output. If `source` has only zeros, this error is returned with
-///   `decoded_bytes` 0.
+///   frame, and `decoded_bytes` is the length of this output. If `source` consists only of zeros, this error is
+///   returned too, and `decoded_bytes` is 0.
 /// - [`DecodeError::TargetBufTooSmall`]: the output of the frame, whole or broken, is longer than `dest`. Then `dest`
 ///   holds the first bytes of the output.
 #[inline]
@@ -135,7 +137,8 @@ pub fn decode_in_place(buff: &mut [u8]) -> Result<usize, DecodeError> {
 }
 
 /// Decodes the frame at the front of `buf` in place, as [`decode_in_place`] does, and returns a report. The report has
-/// the length of the message and the length of the frame; the zero after the frame isn't counted.
+/// the length of the message and the length of the frame. The length of the frame doesn't include the zero after the
+/// frame.
 ///
 /// ```
 /// let mut buf = *b"\x03hi\0\x02x";
@@ -146,16 +149,16 @@ pub fn decode_in_place(buff: &mut [u8]) -> Result<usize, DecodeError> {
 ///
 /// # Errors
 ///
-/// The errors of [`decode_in_place`].
+/// Returns the errors that [`decode_in_place`] returns.
 #[inline]
 pub fn decode_in_place_report(buf: &mut [u8]) -> Result<DecodeReport, DecodeError> {
     proved::decode_in_place_report(buf)
 }
 
-/// Decodes the frame at the front of `source` for the given sentinel. Writes the message to the front of `dest`, and
-/// returns the message's length in bytes. The frame ends at the first sentinel, or at the end of the source. No
-/// sentinel is skipped: if `source` begins with a sentinel, the message is empty. The bytes of `dest` after the message
-/// stay as they are.
+/// Decodes the frame at the front of `source`, which was encoded with the given sentinel. Writes the message to the
+/// front of `dest`, and returns the message's length in bytes. The frame ends at the first sentinel, or at the end of
+/// the source. No sentinel is skipped: if `source` begins with a sentinel, the message is empty. The bytes of `dest`
+/// after the message stay as they are.
 ///
 /// ```
 /// let mut frame = [0; 8];
@@ -181,9 +184,9 @@ pub fn decode_with_sentinel(
     proved::decode_with_sentinel(source, dest, sentinel)
 }
 
-/// Decodes the frame at the front of `buff` in place for the given sentinel, and returns the message's length in bytes.
-/// As in the crate `cobs`, the call first XORs each byte of `buff` with the sentinel, even the bytes after the frame.
-/// Then it decodes `buff` as [`decode_in_place`] does.
+/// Decodes the frame at the front of `buff` in place, and returns the message's length in bytes. The frame was encoded
+/// with the given sentinel. As in the crate `cobs`, the call first XORs each byte of `buff` with the sentinel, even the
+/// bytes after the frame. Then it decodes `buff` as [`decode_in_place`] does.
 ///
 /// ```
 /// let mut buff = [0; 3];
@@ -194,7 +197,7 @@ pub fn decode_with_sentinel(
 ///
 /// # Errors
 ///
-/// The errors of [`decode_in_place`].
+/// Returns the errors that [`decode_in_place`] returns.
 #[inline]
 pub fn decode_in_place_with_sentinel(buff: &mut [u8], sentinel: u8) -> Result<usize, DecodeError> {
     proved::decode_in_place_with_sentinel(buff, sentinel)
@@ -208,7 +211,7 @@ pub fn decode_in_place_with_sentinel(buff: &mut [u8], sentinel: u8) -> Result<us
 ///
 /// # Errors
 ///
-/// [`DecodeError::EmptyFrame`] or [`DecodeError::InvalidFrame`], if [`decode`] returns this error for `source`.
+/// Returns [`DecodeError::EmptyFrame`] or [`DecodeError::InvalidFrame`] if [`decode`] returns this error for `source`.
 #[cfg(feature = "alloc")]
 pub fn decode_vec(source: &[u8]) -> Result<alloc::vec::Vec<u8>, DecodeError> {
     let mut decoded = alloc::vec![0; source.len()];
@@ -226,8 +229,8 @@ pub fn decode_vec(source: &[u8]) -> Result<alloc::vec::Vec<u8>, DecodeError> {
 ///
 /// # Errors
 ///
-/// [`DecodeError::EmptyFrame`] or [`DecodeError::InvalidFrame`], if [`decode_with_sentinel`] returns this error for
-/// `source`.
+/// Returns [`DecodeError::EmptyFrame`] or [`DecodeError::InvalidFrame`] if [`decode_with_sentinel`] returns this error
+/// for `source`.
 #[cfg(feature = "alloc")]
 pub fn decode_vec_with_sentinel(
     source: &[u8],
@@ -239,8 +242,8 @@ pub fn decode_vec_with_sentinel(
     Ok(decoded)
 }
 
-/// Returns whether the bytes are a frame, and if so, whether it is the frame that encoders write for its message. The
-/// crate `cobs` doesn't have this call.
+/// Returns whether the bytes are a frame, and if so, whether this frame is the one that encoders write for its message.
+/// The crate `cobs` doesn't have this call.
 ///
 /// ```
 /// use jcobs::{FrameKind, frame_kind};

@@ -1,4 +1,5 @@
-//! Functions that encode messages. They have the signatures of the crate `cobs`, and call the proved functions.
+//! Defines the functions that encode messages. These functions have the signatures of the crate `cobs`, and call the
+//! proved functions.
 
 mod encoder;
 
@@ -47,7 +48,7 @@ pub fn encode(source: &[u8], dest: &mut [u8]) -> usize {
 ///
 /// # Errors
 ///
-/// Returns [`DestBufTooSmallError`] exactly if the frame doesn't fit `dest`. Then `dest` stays as it was.
+/// Returns [`DestBufTooSmallError`] if and only if the frame doesn't fit `dest`. In that case `dest` stays as it was.
 #[inline]
 pub fn try_encode(source: &[u8], dest: &mut [u8]) -> Result<usize, DestBufTooSmallError> {
     proved::try_encode(source, dest)
@@ -85,8 +86,8 @@ pub fn encode_including_sentinels(source: &[u8], dest: &mut [u8]) -> usize {
 ///
 /// # Errors
 ///
-/// Returns [`DestBufTooSmallError`] exactly if the frame with its two zeros doesn't fit `dest`. Then `dest` stays as it
-/// was.
+/// Returns [`DestBufTooSmallError`] if and only if the frame with its two zeros doesn't fit `dest`. In that case `dest`
+/// stays as it was.
 #[inline]
 pub fn try_encode_including_sentinels(
     source: &[u8],
@@ -95,9 +96,9 @@ pub fn try_encode_including_sentinels(
     proved::try_encode_including_sentinels(source, dest)
 }
 
-/// Writes the frame of `source` for the given sentinel to the front of `dest`, and returns the frame's length in bytes.
-/// Each byte of this frame is a byte of the frame for the sentinel 0, XORed with `sentinel`. The bytes after the frame
-/// stay as they are.
+/// Encodes `source` with the given sentinel, writes the frame to the front of `dest`, and returns the frame's length in
+/// bytes. The bytes of this frame are the bytes of the frame for the sentinel 0, each XORed with `sentinel`. The bytes
+/// of `dest` after the frame stay as they are.
 ///
 /// ```
 /// let mut dest = [0; 4];
@@ -139,8 +140,8 @@ pub fn encode_in_place(buffer: &mut [u8], len: usize) -> usize {
     proved::encode_in_place(buffer, len)
 }
 
-/// Writes the frame of `source` for the given sentinel to the front of `dest`, and returns the frame's length in bytes.
-/// Unlike [`encode_with_sentinel`], this call returns an error if the frame doesn't fit `dest`. The crate `cobs`
+/// Encodes `source` with the given sentinel, writes the frame to the front of `dest`, and returns the frame's length in
+/// bytes. Unlike [`encode_with_sentinel`], this call returns an error if the frame doesn't fit `dest`. The crate `cobs`
 /// doesn't have this call.
 ///
 /// ```
@@ -151,7 +152,7 @@ pub fn encode_in_place(buffer: &mut [u8], len: usize) -> usize {
 ///
 /// # Errors
 ///
-/// Returns [`DestBufTooSmallError`] exactly if the frame doesn't fit `dest`. Then `dest` stays as it was.
+/// Returns [`DestBufTooSmallError`] if and only if the frame doesn't fit `dest`. In that case `dest` stays as it was.
 #[inline]
 pub fn try_encode_with_sentinel(
     source: &[u8],

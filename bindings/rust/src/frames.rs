@@ -11,9 +11,9 @@ use crate::{enc::encode, max_encoding_length, memory, memory::AllocError};
 #[cfg(feature = "alloc")]
 use alloc::vec::Vec;
 
-/// Returns an iterator over the frames of a recorded stream, in order. Each item is a frame that isn't decoded yet,
-/// without the zero that ends the frame. Extra zeros, such as a second zero after a frame, are skipped. The bytes after
-/// the last zero aren't an item.
+/// Returns an iterator over the frames of a recorded stream, in order. Each item is a frame that hasn't been decoded
+/// yet. The zero that ends the frame isn't part of the item. Extra zeros, such as a second zero after a frame, are
+/// skipped. The bytes after the last zero aren't an item.
 ///
 /// The iterator doesn't check the frames. For a damaged frame, [`decode`](crate::decode) may return an error. The crate
 /// `cobs` doesn't have this call.
@@ -84,7 +84,7 @@ impl<'a> Iterator for Frames<'a> {
 impl FusedIterator for Frames<'_> {}
 
 /// Returns a lower and an upper bound of the number of frames in a stream. The upper bound is half of the stream's
-/// length, because each frame has at least one byte, and a zero follows the frame.
+/// length, because each frame has at least one byte, and is followed by a zero.
 #[inline]
 const fn most_frames(stream: &[u8]) -> (usize, Option<usize>) {
     (0, Some(stream.len() / 2))
@@ -112,7 +112,7 @@ const fn most_frames(stream: &[u8]) -> (usize, Option<usize>) {
 ///
 /// # Errors
 ///
-/// An item is [`DecodeError::InvalidFrame`] if the frame breaks off inside a block. This error is the one that
+/// An item is [`DecodeError::InvalidFrame`] if the frame breaks off inside a block. It is the error that
 /// [`decode_in_place`](crate::decode_in_place) returns for the frame.
 #[inline]
 pub const fn decode_stream_in_place(stream: &mut [u8]) -> DecodeStreamInPlace<'_> {
@@ -189,8 +189,8 @@ where
     I: IntoIterator,
     I::Item: AsRef<[u8]>,
 {
-    // The proved function of this name takes a slice of vectors, so each message would have to be copied to a vector
-    // first.
+    // The proved function of this name isn't called, because it takes a slice of vectors: for this slice, each message
+    // would have to be copied to a vector.
     let mut stream = Vec::new();
     messages
         .into_iter()

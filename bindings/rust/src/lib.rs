@@ -1,5 +1,5 @@
 //! Encodes and decodes Consistent Overhead Byte Stuffing (COBS), in code that is translated from proved code. The calls
-//! of the crate `cobs` 0.5.1 have the same names and signatures here.
+//! of the crate `cobs` 0.5.1 have the same names and signatures in this crate.
 //!
 //! COBS encodes a message, which may be any bytes, as a frame that never contains a certain byte value: the sentinel.
 //! So the sentinel, usually 0, can mark the end of each frame on a serial line or in a file. The frame of a message of
@@ -66,11 +66,11 @@
 //!
 //! | a program has | it calls |
 //! |---|---|
-//! | a message | [`encode`] into a slice, [`try_encode`] if the frame may not fit the slice, [`encode_vec`], [`encode_in_place`] in the message's own buffer; for any sentinel [`encode_with_sentinel`] |
+//! | a message | [`encode`] to write the frame to a slice; [`try_encode`] if the frame may not fit the slice; [`encode_vec`] to make a vector; [`encode_in_place`] to encode in the message's own buffer; [`encode_with_sentinel`] for any sentinel |
 //! | a message in chunks | [`CobsEncoder`]; [`UnbufferedEncoder`], whose buffer is passed to each call; [`EncoderState`], if the program has a container of its own for the frame |
-//! | a frame | [`decode`], [`decode_vec`], [`decode_in_place`]; for any sentinel [`decode_with_sentinel`]; [`frame_kind`] to check the frame |
-//! | bytes from a line, an interrupt, a channel | [`CobsDecoder`] over a slice, [`CobsDecoderHeapless`] with its buffer inside, [`CobsDecoderOwned`]; [`UnbufferedDecoder`], whose buffer is passed to each call |
-//! | a [`Read`](std::io::Read) or [`Write`](std::io::Write) | [`MessageReader`], [`MessageWriter`] |
+//! | a frame | [`decode`], [`decode_vec`] or [`decode_in_place`]; [`decode_with_sentinel`] for any sentinel; [`frame_kind`] to check the frame |
+//! | bytes from a line, an interrupt or a channel | [`CobsDecoder`], whose buffer is a slice; [`CobsDecoderHeapless`], which contains its buffer; [`CobsDecoderOwned`], which allocates its buffer; [`UnbufferedDecoder`], whose buffer is passed to each call |
+//! | a [`Read`](std::io::Read) or a [`Write`](std::io::Write) | [`MessageReader`] or [`MessageWriter`] |
 //! | a stream or a sink of tokio | `MessageCodec`, with the feature `tokio-util` |
 //! | another source, without `std` | [`FrameReader`] over a [`FrameSource`] |
 //! | a recorded stream | [`frames`], [`decode_stream_in_place`], [`decode_stream`] |
@@ -91,15 +91,17 @@
 //!
 //! # Features
 //!
-//! - `std` (default): the feature `alloc`; [`MessageReader`] and [`MessageWriter`]; [`Recorded`], a [`FrameSource`]
-//!   over any [`std::io::Read`]; and the feature `std` of `memchr`, with which `memchr` uses AVX2 if the processor has
-//!   AVX2.
-//! - `alloc`: the calls that return a `Vec`, and [`CobsDecoderOwned`].
-//! - `small`: on every target a call processes one byte at a time (see "Targets"), and the crate has no `unsafe` code.
-//! - `serde`, `defmt`: derives for the errors ([`DecodeError`], [`DestBufTooSmallError`], [`PushError`], [`ReadFault`],
-//!   [`AllocError`]) and for [`DecodeReport`], [`PieceEnd`], [`Next`], [`FrameKind`] and `FrameOutcome`.
-//! - `heapless`: [`CobsDecoderHeapless::new_with_vec`] accepts a `heapless::Vec`.
-//! - `tokio-util`: the feature `std`, and `MessageCodec`, a codec for streams and sinks of tokio.
+//! - `std` (default) turns on the feature `alloc`, and the feature `std` of `memchr`, with which `memchr` uses AVX2 if
+//!   the processor has AVX2. It adds [`MessageReader`], [`MessageWriter`], and [`Recorded`], a [`FrameSource`] over any
+//!   [`std::io::Read`].
+//! - `alloc` adds the calls that return a `Vec`, and [`CobsDecoderOwned`].
+//! - With `small`, a call processes one byte at a time on every target (see "Targets"), and the crate has no `unsafe`
+//!   code.
+//! - `serde` and `defmt` derive the traits of the crate `serde` or `defmt` for the errors ([`DecodeError`],
+//!   [`DestBufTooSmallError`], [`PushError`], [`ReadFault`], [`AllocError`]) and for [`DecodeReport`], [`PieceEnd`],
+//!   [`Next`], [`FrameKind`] and `FrameOutcome`.
+//! - With `heapless`, [`CobsDecoderHeapless::new_with_vec`] accepts a `heapless::Vec`.
+//! - `tokio-util` turns on the feature `std`, and adds `MessageCodec`, a codec for streams and sinks of tokio.
 //!
 //! With `default-features = false`, the crate needs neither `std` nor an allocator.
 //!

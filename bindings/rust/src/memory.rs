@@ -1,4 +1,4 @@
-//! Allocates memory for the calls that return an error if memory runs out, instead of aborting the program.
+//! Allocates memory for the calls that return an error if memory runs out. These calls don't abort the program.
 
 #[cfg(feature = "alloc")]
 use alloc::vec::Vec;
@@ -28,7 +28,7 @@ pub(crate) fn copied(bytes: &[u8]) -> Result<Vec<u8>, AllocError> {
 }
 
 /// Appends `room` zeros to `bytes`, and passes these zeros to `write`, which writes bytes over them. `write` returns
-/// how many of the appended bytes to keep. The vector drops the appended bytes after them.
+/// how many of the appended bytes to keep. The other appended bytes are removed again.
 #[cfg(feature = "alloc")]
 #[inline]
 pub(crate) fn append(

@@ -8,8 +8,8 @@ use crate::dec::{DecodeError, PieceEnd, UnbufferedDecoder};
 /// Reads messages from a serial port, a socket, a file, or any other source that implements [`BufRead`].
 ///
 /// If the source implements only [`Read`](io::Read), wrap it in a [`BufReader`](std::io::BufReader). A `BufReader` asks
-/// the source for as many bytes as its capacity, and doesn't wait for more if one read returns fewer. The crate `cobs`
-/// doesn't have this type.
+/// the source for as many bytes as fit into the buffer. If a read returns fewer bytes, the `BufReader` doesn't wait for
+/// more. The crate `cobs` doesn't have this type.
 ///
 /// ```
 /// use std::io::BufReader;
@@ -104,8 +104,8 @@ impl<R: BufRead> MessageReader<R> {
     /// # Errors
     ///
     /// - [`ErrorKind::UnexpectedEof`]: the source has ended inside a frame.
-    /// - Each error of the source, such as [`ErrorKind::TimedOut`] and [`ErrorKind::WouldBlock`]. The only exception is
-    ///   [`ErrorKind::Interrupted`]: after this error the source is read again.
+    /// - Every error of the source, such as [`ErrorKind::TimedOut`] and [`ErrorKind::WouldBlock`]. The only exception
+    ///   is [`ErrorKind::Interrupted`]: after this error the source is read again.
     ///
     /// After an error no byte is lost: the next call continues where this call stopped.
     pub fn read_message(&mut self) -> io::Result<Option<Result<&[u8], DecodeError>>> {

@@ -1,8 +1,8 @@
-//! SIMD vectors of bytes, for stable Rust and any target. The proved source uses some types and methods of `std::simd`;
-//! this module defines types and methods with the same names.
+//! Defines SIMD vectors of bytes for stable Rust and any target. The proved source uses some types and methods of
+//! `std::simd`. This module defines types and methods with the same names.
 //!
-//! The crate's only `unsafe` code is in this file: the calls of SSE2 and NEON intrinsics. With the feature `small`, the
-//! crate has no `unsafe` code. The tests compare every operation with the same operation on single bytes, for each
+//! The only `unsafe` code of this crate is in this file: it calls SSE2 and NEON intrinsics. With the feature `small`,
+//! the crate has no `unsafe` code. The tests compare every operation with the same operation on single bytes, for each
 //! width from 1 to 64.
 
 // rustc turns the loops over indices into vector instructions.
@@ -38,9 +38,9 @@ use portable as way;
 ))]
 use sse2 as way;
 
-/// Whether the calls process many bytes in one step, as vectors and slices. The calls do so if the target has SSE2,
-/// NEON or WebAssembly's SIMD, and the feature `small` is off. Otherwise the calls process one byte at a time. In the
-/// translated code, `has_vectors` returns this constant.
+/// Whether the calls process many bytes in one step, with vectors and operations on slices. They do so if the target
+/// has SSE2, NEON or WebAssembly's SIMD, and the feature `small` is off. Otherwise the calls process one byte at a
+/// time. In the translated code, `has_vectors` returns this constant.
 pub const HAS_VECTORS: bool = !cfg!(feature = "small")
     && (way::HAS_VECTORS || cfg!(all(target_feature = "simd128", target_family = "wasm")));
 
@@ -125,8 +125,8 @@ impl<const N: usize> Mask<N> {
     }
 }
 
-/// Pads `bytes`, which has at most 16 bytes, with zeros to 16 bytes. For fewer than 16 bytes, rustc uses no vector
-/// instructions.
+/// Pads `bytes`, which has at most 16 bytes, with zeros to 16 bytes. If there are fewer than 16 bytes, rustc doesn't
+/// use vector instructions.
 #[inline(always)]
 fn widened(bytes: &[u8]) -> [u8; 16] {
     let mut wide = [0; 16];
@@ -200,8 +200,9 @@ mod sse2 {
 
     pub const HAS_VECTORS: bool = true;
 
-    /// Compares all 16 bytes with one vector instruction. If the bytes come from an integer, rustc would compile a loop
-    /// to one comparison per byte. With the vector instruction, short messages are encoded much faster.
+    /// Compares all 16 bytes with one vector instruction, without a loop. If the bytes come from an integer, rustc
+    /// compiles a loop over them to a separate comparison for each byte. With the vector instruction, short messages
+    /// are encoded much faster than with these comparisons.
     #[inline(always)]
     pub fn equal(bytes: [u8; 16], other: [u8; 16]) -> [u8; 16] {
         // SAFETY: the target has SSE2, and each vector has the 16 bytes of an array.
@@ -233,7 +234,7 @@ mod neon {
 
     pub const HAS_VECTORS: bool = true;
 
-    /// Compares all 16 bytes with one vector instruction, like the function for SSE2.
+    /// Compares all 16 bytes with one vector instruction, as the function for SSE2 does.
     #[inline(always)]
     pub fn equal(bytes: [u8; 16], other: [u8; 16]) -> [u8; 16] {
         // SAFETY: the target has NEON, and each vector has the 16 bytes of an array.

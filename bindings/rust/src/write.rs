@@ -38,7 +38,7 @@ pub struct MessageWriter<W> {
     inner: W,
     /// Memory for the bytes of a write.
     written: Vec<u8>,
-    /// Whether the last write failed, so that a part of its frame may have been written.
+    /// Whether the last write failed. If it failed, a part of its frame may have been written.
     failed: bool,
 }
 
@@ -62,7 +62,8 @@ impl<W: Write> MessageWriter<W> {
     ///
     /// # Errors
     ///
-    /// - Each error of [`Write::write_all`]. Then it isn't known how many bytes were written: write the message again.
+    /// - Every error of [`Write::write_all`]. After such an error, it isn't known how many bytes were written, so write
+    ///   the message again.
     /// - [`OutOfMemory`](io::ErrorKind::OutOfMemory): nothing was written.
     pub fn write_message(&mut self, message: &[u8]) -> io::Result<()> {
         self.written.clear();

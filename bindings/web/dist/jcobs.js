@@ -1,6 +1,6 @@
 // jcobs 1.0.0, with the module inside. Written by pack.mjs from jcobs.js, machine.js and cobs.wasm; edit those.
-// Loads the proved module, makes its calls, and keeps track of the free places in its memory. Only this file uses the names that
-// the module exports. jcobs.js has the calls of a user.
+// Loads the proved module, calls its functions, and keeps track of the free places in its memory. Only this file uses the names
+// that the module exports. jcobs.js has the calls that users make.
 
 // enum jcobs_status and enum jcobs_kind of jcobs.h
 const OK = 0;
@@ -14,7 +14,7 @@ const SCRATCH_SIZE = 1 << 22;        // bytes of memory for a call; a call that 
 const STATE_SIZE = 64;        // bytes for a jcobs_decoder or a jcobs_encoder
 const CHUNK_SIZE = 1 << 14;          // how many bytes of a stream are copied into the module at a time
 const NEAR = 1024;             // a call of at most this many bytes is short; the results of short calls have a fixed place
-const LONG = 4096;                   // a result of at least this many bytes isn't copied by `slice`
+const LONG = 4096;                   // a result of at least this many bytes isn't copied with `slice`
 const MEMORY_LIMIT = 2 ** 32;        // the first address that doesn't fit in the module's 32 bits
 
 /** The names that cobs.wasm exports. */
@@ -46,7 +46,7 @@ class CobsError extends Error {
 
 const SMALL = Array.from({ length: NEAR + 64 }, (_, number) => BigInt(number));
 
-/** Returns a number as a BigInt, for the module. Making a BigInt costs more than a short call, so those of small numbers are kept. */
+/** Returns a number as a BigInt, for the module. Making a BigInt costs more than a short call, so the BigInts of small numbers are kept. */
 const word = (number) => (number < SMALL.length ? SMALL[number] : BigInt(number));
 
 /** An instance of the module, with calls whose arguments are addresses in its memory. */
@@ -85,7 +85,7 @@ class Machine {
     this.#see();
   }
 
-  /** Copies bytes to an address, and XORs each with the sentinel. */
+  /** Copies bytes to an address, and XORs each copied byte with the sentinel. */
   write(bytes, at, sentinel = 0) {
     const memory = this.#bytes;
     memory.set(bytes, at);
@@ -94,7 +94,7 @@ class Machine {
 
   /** Returns a copy of the bytes at an address. */
   read(at, length) {
-    // the constructor copies many bytes in half the time of `slice`, because `slice` first clears the copy
+    // the constructor copies many bytes in half the time that `slice` needs, because `slice` first clears the copy
     if (length < LONG) return this.#bytes.slice(at, at + length);
     return new Uint8Array(this.#bytes.subarray(at, at + length));
   }
@@ -166,20 +166,20 @@ class Machine {
     };
   }
 
-  /** Returns the jcobs_answer of the last call: a number of 32 bits, and after it two of 64 bits, each with its low half first. */
+  /** Returns the jcobs_answer of the last call: a 32-bit number, followed by two 64-bit numbers, each with its low half first. */
   #answer() {
     const words = this.#words;
     return { status: words[0], consumed: words[2] + words[3] * 0x100000000, length: words[4] + words[5] * 0x100000000 };
   }
 }
 
-/** A small module with a function that copies within its memory, which is the newest feature of WebAssembly that cobs.wasm uses. */
+/** A small module with a function that copies within its memory. Such copying is the newest feature of WebAssembly that cobs.wasm uses. */
 const PROBE = Uint8Array.of(
   ...[0, 0x61, 0x73, 0x6d, 1, 0, 0, 0, 1, 4, 1, 0x60, 0, 0, 3, 2, 1, 0, 5, 3, 1, 0, 1],
   ...[10, 14, 1, 12, 0, 0x41, 0, 0x41, 0, 0x41, 0, 0xfc, 10, 0, 0, 0x0b],
 );
 
-/** Returns the reason why cobs.wasm doesn't run here, or "" if it does. */
+/** Returns the reason why cobs.wasm doesn't run here, or "" if it does run. */
 function obstacle() {
   const hasAll = typeof WebAssembly === "object" && typeof BigInt64Array === "function" && WebAssembly.validate(PROBE);
   if (!hasAll) return "this engine lacks the WebAssembly that cobs.wasm needs, which browsers have since 2021 and Node since 16";
@@ -203,7 +203,7 @@ let loading;
  * except `isSupported` needs the module. Once the module is loaded, or is being loaded, a further call changes nothing.
  */
 function load(source) {
-  // moduleAddress() isn't a default of the parameter: in dist/ it decodes the whole module, which should happen only once
+  // moduleAddress() isn't the parameter's default value, because in dist/ it decodes the whole module, and should do so only once
   loading ??= loadFrom(source === undefined ? moduleAddress() : source).catch((error) => {
     loading = undefined;
     throw error;
@@ -235,7 +235,7 @@ async function loadFrom(source) {
   demandSupport();
   const module = await moduleOf(source);
   demandCalls(module);
-  // not `new WebAssembly.Instance`, which Chrome before version 115 doesn't allow on its main thread for a module of this size
+  // `new WebAssembly.Instance` isn't used: Chrome before version 115 doesn't allow it on the main thread for a module of this size
   const instance = await WebAssembly.instantiate(module, {});
   if (!shared) keep(module, instance);
 }
@@ -252,7 +252,7 @@ function keep(module, instance) {
 }
 
 async function moduleOf(given) {
-  const source = await given; // `given` may be a promise, for example that of `fetch`
+  const source = await given; // `given` may be a promise, for example the one that `fetch` returns
   if (source instanceof WebAssembly.Module) return source;
   if (isBytes(source)) return WebAssembly.compile(bytesOf(source));
   if (typeof Response === "function" && source instanceof Response) return WebAssembly.compile(await bytesOfResponse(source));
@@ -264,7 +264,7 @@ async function moduleOf(given) {
   return WebAssembly.compile(files ? await files.promises.readFile(url) : await bytesOfResponse(await fetch(url)));
 }
 
-/** Returns Node's module `fs` for the address of a file. The module isn't imported, because bundlers for browsers can't resolve it. */
+/** Returns Node's module `fs` if `url` is the address of a file. The module isn't imported, because bundlers for browsers can't resolve it. */
 const filesFor = (url) => (url.protocol === "file:" ? globalThis.process?.getBuiltinModule?.("node:fs") : undefined);
 
 /** Returns the bytes of the file at an address. Only Node can read a file without a promise. */
@@ -347,7 +347,7 @@ function machineFor(size) {
   return own;
 }
 
-const isBuffer = (source) => /^\[object (Shared)?ArrayBuffer\]$/.test(Object.prototype.toString.call(source)); // `instanceof` is false for an ArrayBuffer of another frame
+const isBuffer = (source) => /^\[object (Shared)?ArrayBuffer\]$/.test(Object.prototype.toString.call(source)); // `instanceof` is false for an ArrayBuffer that another window or iframe made
 const isBytes = (source) => ArrayBuffer.isView(source) || isBuffer(source);
 
 /** Returns the bytes of an ArrayBuffer or of any view of one. */
@@ -361,24 +361,24 @@ function bytesOf(source) {
   throw new TypeError("bytes must be a Uint8Array, another view, or an ArrayBuffer");
 }
 
-/** Returns whether a view has lost its bytes. Its length is then 0, like the length of an empty view. */
+/** Returns whether a view has lost its bytes. The length of such a view is 0, like the length of an empty view. */
 function isGone(view) {
   try {
     if ("length" in view && view.length === 0) Uint8Array.prototype.indexOf.call(view, 0); // throws for a view that is out of bounds
-    return view.byteLength < 0; // which throws for such a DataView
+    return view.byteLength < 0; // throws for such a DataView
   } catch {
     return true;
   }
 }
 
-// Consistent Overhead Byte Stuffing for the browser and Node, over the proved code in cobs.wasm.
+// Implements Consistent Overhead Byte Stuffing for browsers and Node with the proved code in cobs.wasm.
 //
 //     import { load, encode, decode, FrameDecoderStream } from "./jcobs.js";
 //     await load();
 //     const frame = encode(Uint8Array.of(10, 11, 0, 12));            // 3 10 11 2 12
 //     const frames = port.readable.pipeThrough(new FrameDecoderStream({ maxLength: 4096 }));
 //
-// This file copies bytes into the module's memory, and results out of that memory. Only the module decides which bytes a
+// This file copies bytes into the module's memory, and copies results out of that memory. Only the module decides which bytes a
 // frame has, and which messages a stream has.
 
 
@@ -412,15 +412,16 @@ const ENCODING = { sentinel: 0, terminated: false };
 const STREAM = { maxLength: 65536, sentinel: 0, skipFirst: false };
 const PIECEWISE = { maxLength: 65536, sentinel: 0 };
 
-/** Returns the length of the longest frame of a message of `length` bytes, without sentinels. */
+/** Returns the length of the longest frame that a message of `length` bytes can have, not counting sentinels. */
 function maxEncodedLength(length) {
   if (!Number.isSafeInteger(length) || length < 0) throw new RangeError("the length must be an integer, 0 or more");
   return loaded().machine.maxLength(length);
 }
 
 /**
- * Returns a length that is enough for the frame of a message of `length` bytes and its sentinel. A frame is at least one byte
- * longer than its message, and each 254 bytes of the message can add one byte. This length allows one byte for each 128 bytes.
+ * Returns a length that is enough for the frame of a message of `length` bytes, and for a sentinel after the frame. A frame is at
+ * least one byte longer than its message, and each 254 bytes of the message can add one more byte. The returned length has room
+ * for one more byte for each 128 bytes.
  */
 const roomFor = (length) => length + Math.floor(length / 128) + 2;
 
@@ -435,7 +436,10 @@ function encode(message, options) {
   return machine.read(at, length);
 }
 
-/** Encodes a message to the front of `dest` and returns the frame's length. If the frame doesn't fit, `dest` isn't changed. */
+/**
+ * Encodes a message to the front of `dest`, with a sentinel after the frame if `terminated` is true. Returns how many bytes the call
+ * has written. If these bytes don't fit, `dest` isn't changed.
+ */
 function encodeInto(message, dest, options) {
   const front = bytesOf(dest);
   const { sentinel, terminated } = optionsOf(options, ENCODING);
@@ -465,7 +469,7 @@ function decode(frame, options) {
   throw new CobsError("empty", "there is no frame to decode: there are no bytes, or only sentinels");
 }
 
-/** Returns "canonical" for a frame that `encode` returns, "longer" for a frame with a needless last block 01, otherwise "notAFrame". */
+/** Returns "canonical" for a frame that `encode` returns, "longer" for a frame that ends in a needless block 01, and otherwise "notAFrame". */
 function frameKind(frame, options) {
   const bytes = bytesOf(frame);
   const { sentinel } = optionsOf(options, DECODING);
@@ -477,8 +481,8 @@ function frameKind(frame, options) {
 const abandoned = typeof FinalizationRegistry === "function" ? new FinalizationRegistry(({ arena, place }) => arena.give(place)) : null;
 
 /**
- * A place in the shared memory for a state, a chunk and a buffer. `close` frees the place. Garbage collection of the owner, a
- * decoder or an encoder, also frees the place.
+ * A place in the shared memory for a state, a chunk and a buffer. `close` frees the place. If the owner of the place, a decoder
+ * or an encoder, is garbage-collected, the place is freed too.
  */
 class Held {
   #place;
@@ -535,10 +539,10 @@ class FrameDecoder {
   }
 
   /**
-   * Decodes a chunk, and calls `visit(outcome, end)` for each piece that ends in the chunk; `end` is the index in the chunk after
-   * the sentinel of the piece. If `visit` closes the decoder, `push` doesn't call `visit` again. If `visit` throws an error, `push`
-   * decodes the rest of the chunk without calling `visit`, and then throws this error. So the next chunk is decoded as if `visit`
-   * had thrown nothing.
+   * Decodes a chunk, and calls `visit(outcome, end)` for each piece that ends in the chunk. `end` is the index in the chunk right
+   * after the sentinel of the piece. If `visit` closes the decoder, `push` doesn't call `visit` again. If `visit` throws an
+   * error, `push` decodes the rest of the chunk without calling `visit`, and then throws this error. So the next chunk is decoded
+   * as if `visit` had thrown nothing.
    */
   push(chunk, visit) {
     if (!this.#held.isOpen || this.#isClosing) throw new Error("the decoder is closed");
@@ -604,8 +608,8 @@ class FrameDecoder {
 }
 
 /**
- * Returns an iterator over the outcomes of the pieces of `bytes`. The member `end` of an outcome is the index in `bytes` after the
- * sentinel of the piece.
+ * Returns an iterator over the outcomes of the pieces of `bytes`. The property `end` of an outcome is the index in `bytes` right
+ * after the sentinel of the piece.
  */
 function frames(bytes, options) {
   const view = bytesOf(bytes);
@@ -687,16 +691,16 @@ class FrameEncoder {
 }
 
 /**
- * Makes the two ends of a stream, `readable` and `writable`, like those of a TransformStream. `take` is called with
- * each chunk and a function `give`, to which `take` passes each result. `close` is called once, however the stream ends.
- * A TransformStream isn't enough: some engines don't tell its transformer that the stream was cancelled or aborted.
+ * Makes the two ends of a stream, `readable` and `writable`, like those of a TransformStream. `take` is called with each chunk
+ * and a function `give`, to which `take` passes each result. `close` is called once, however the stream ends. A TransformStream
+ * isn't enough, because some engines don't inform its transformer when the stream is cancelled or aborted.
  */
 function ends(take, close) {
   const link = { take, close, out: null, into: null, wake: () => {}, isWanted: false, isOver: false, reason: undefined };
   return { readable: readableOf(link), writable: writableOf(link) };
 }
 
-/** Makes the stream fail for this reason. `end` is the controller of the stream's end (readable or writable) that gets the reason. */
+/** Makes the stream fail for this reason. `end` is the controller of the end, readable or writable, to which the reason is passed. */
 function fail(link, end, reason) {
   if (link.isOver) return;
   link.isOver = true;
@@ -722,7 +726,7 @@ function writableOf(link) {
   return new WritableStream({
     start(controller) {
       link.into = controller;
-      // the engine calls `abort` below only after the write under way, which may be waiting for a reader
+      // the engine calls `abort` below only after the current write has ended, and this write may be waiting for a reader
       const { signal } = controller;
       signal?.addEventListener("abort", () => fail(link, link.out, signal.reason));
     },

@@ -1,5 +1,5 @@
 // Written by pack.mjs from serialport.js; edit that.
-// COBS as streams of Node, which can be piped from and to a port of the package serialport:
+// Offers COBS as streams of Node. They can be piped from and to a port of the package serialport:
 //
 //     port.pipe(new FrameDecoderTransform({ skipFirst: true })).on("data", ({ message }) => ..);
 const { Transform } = require("node:stream");

@@ -39,7 +39,7 @@ export function linkOf(view, others = {}) {
   return new URL(more === "" ? hashOf(view) : `${hashOf(view)}&${more}`, location.href).href;
 }
 
-/** Keeps the values of a view. If all of them fit, and the view is shown, they are soon in the address. */
+/** Keeps the values of a view. If all of them fit, and the view is shown, they are soon written into the address. */
 export function keepState(view, values) {
   const fits = Object.values(values).every((value) => String(value).length <= LONGEST);
   states.set(view, fits ? new URLSearchParams(values).toString() : null);

@@ -1,5 +1,5 @@
-// Shows a stream: above each byte the byte of the message that corresponds to it, and below it the arcs from code to code. The byte
-// under the mouse or at the cursor is explained, and can be changed, in the message or in the frame.
+// Shows a stream. Above each byte is the byte of the message that corresponds to it, and below the bytes are the arcs from code to
+// code. The byte under the mouse or at the cursor is explained, and can be changed, in the message or in the frame.
 import { CELL, rowPicture } from "../draw.js";
 import { explainFrame, explainMessage } from "./explain.js";
 import { printHex } from "./hex.js";
@@ -268,7 +268,7 @@ export class Canvas {
     if (this.#edit(event.key) || this.#move(event.key)) event.preventDefault();
   }
 
-  /** Moves the cursor if the key is one that moves it, and returns whether it is. */
+  /** Returns whether the key is one that moves the cursor. If so, moves the cursor. */
   #move(key) {
     const length = this.#pieces.stream.length;
     const page = Math.max(1, Math.floor(this.#box.clientHeight / LINE_HEIGHT));
@@ -322,7 +322,7 @@ export class Canvas {
     return Math.min(from + column, to - 1);
   }
 
-  /** Changes a byte if the key is one that does so, and returns whether it is. */
+  /** Returns whether the key is one that changes a byte. If so, changes the byte. */
   #edit(key) {
     if (/^[0-9a-f]$/i.test(key)) {
       if (this.#digit === "") this.#begin(key.toLowerCase());

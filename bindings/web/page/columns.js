@@ -1,5 +1,5 @@
-// Reads bytes as od prints them in columns after an offset: as octal numbers (-b), decimal numbers (-t u1, -t d1) or characters (-c);
-// and as the command x of gdb prints decimal numbers.
+// Reads bytes that od prints in columns after an offset: as octal numbers (-b), decimal numbers (-t u1, -t d1) or characters (-c).
+// Also reads bytes that the command x of gdb prints as decimal numbers.
 import { unrolled } from "./dumps.js";
 import { choice } from "./readings.js";
 

@@ -54,7 +54,7 @@ function readRows(rows) {
 const bytesOf = (groups) => groups.flatMap((group) => group.replace(/^0x/i, "").match(/../g).map((pair) => parseInt(pair, 16)));
 const wordsOf = (groups) => groups.flatMap((group) => [parseInt(group.slice(2), 16), parseInt(group.slice(0, 2), 16)]);
 
-/** Returns the bytes of all lines, with the bytes for which a star stands, or null if an offset doesn't fit. */
+/** Returns the bytes of all lines, with the bytes that a star stands for, or null if an offset doesn't fit. */
 export function unrolled(rows, base, read) {
   const place = ({ digits }) => (base === 16 || !/[a-f89]/i.test(base === 8 ? digits : digits.replace(/[89]/g, "0")) ? parseInt(digits, base) : NaN);
   const start = place(rows[0]);

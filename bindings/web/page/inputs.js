@@ -48,9 +48,9 @@ export function once(act) {
 }
 
 /**
- * Makes the status of a view: `show(text)` shows a text at once, and `speak(text)` passes that or another text to screen readers. A
- * text is spoken after `milliseconds`, unless another text comes before that: then only the later text is spoken. If texts keep coming,
- * one is spoken after five times `milliseconds`. Otherwise a screen reader would speak at each key.
+ * Makes the status of a view. `show(text)` shows a text at once, and passes it to screen readers. `speak(text)` only passes a text to
+ * screen readers. A text is spoken after `milliseconds`. If another text comes before that, only the later text is spoken. If texts keep
+ * coming, one of them is spoken after five times `milliseconds`. Without this delay, a screen reader would speak at each key.
  */
 export function statusOf(view, milliseconds) {
   let timer = 0;

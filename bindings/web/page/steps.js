@@ -1,5 +1,5 @@
-// Shows the encoder and the decoder step by step on the drawing, with a few lines of code that do the same. These lines explain the format.
-// The other parts of the page encode and decode with the module, and the tests compare these lines with the module.
+// Shows the encoder and the decoder step by step in the drawing, with a few lines of code that make the same steps. The lines explain the
+// format. The other parts of the page encode and decode with the module, and the tests compare the lines with the module.
 import { printHex } from "./hex.js";
 import { byId, count } from "./inputs.js";
 
@@ -32,8 +32,8 @@ export const encoderLines = (sentinel) => (sentinel === 0 ? ENCODER : [...ENCODE
 export const decoderLines = (sentinel) => (sentinel === 0 ? DECODER : ["frame = each byte of frame XOR the sentinel", ...DECODER]);
 
 /**
- * Returns the steps of the encoder. Each has its line of code, the output so far, a sentence, and `stage`, which `rowPicture` draws: the
- * code of the open block is counted at its place, and gets its arc when the block is closed.
+ * Returns the steps of the encoder. Each step has its line of code, the output so far, a sentence, and `stage`, which `rowPicture` draws.
+ * In a stage, the code of the open block is counted at its place, and gets its arc when the block is closed.
  */
 export function encoderSteps(message, sentinel = 0) {
   const steps = [];

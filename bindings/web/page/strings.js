@@ -1,4 +1,4 @@
-// Reads the strings of programs: returns the bytes for which escapes stand.
+// Reads the strings of programs: returns the bytes that escapes stand for.
 
 const ESCAPES = { a: 7, b: 8, e: 27, f: 12, n: 10, r: 13, t: 9, v: 11, "\\": 92, "'": 39, '"': 34 };
 const PART = /\\x([0-9a-f]{2})|\\([0-7]{1,3})|\\u(?:\{([0-9a-f]{1,6})\}|([0-9a-f]{4}))|\\(\n\s*)|\\(.)|([^\\]+)/giu;

@@ -102,7 +102,7 @@ await check("esbuild finds no syntax that those browsers lack", async () => {
   }
   const [chrome, firefox, safari] = await named("README.md");
   const text = await read("dist/jcobs.js");
-  // esbuild takes optional chaining for newer than it is, for a fault of older Chromes that needs a spread in the call
+  // esbuild takes optional chaining to be newer than it is, because older versions of Chrome have a fault in it, which only a call with a spread shows
   const built = (target) => execFileSync(esbuild, ["--format=esm", "--log-level=error", "--supported:optional-chain=true", `--target=${target}`], { input: text, encoding: "utf8", maxBuffer: 1 << 26 });
   equal(built(`chrome${chrome},firefox${firefox},safari${safari}`) === built("esnext"), true, "whether nothing is rewritten");
 });

@@ -1,8 +1,8 @@
 // Runs the cases of conformance/ with the module, in any engine: with the module's own calls, and if a case fits also with jcobs.js.
 //
 // conformance/README.md describes the lines. The calls that the module doesn't have, because machine.js doesn't make them, are left
-// out: decoding in place, `next_frame` and the two state machines. If the module's result has another name or another form than that of
-// the line, the comment at the call says so.
+// out: decoding in place, `next_frame` and the two state machines. If the name or the form of the module's result differs
+// from the line, the comment at the call says so.
 import { CobsError, FrameDecoderStream, FrameEncoder, FrameEncoderStream, decode, encode, frameKind, load, maxEncodedLength } from "../jcobs.js";
 import { Raw } from "./raw.mjs";
 
@@ -79,7 +79,7 @@ function decodedByPieces(room, pieces) {
   return { after: wordOf(raw.read(buffer)), said };
 }
 
-/** The crate returns `too_small` for each byte from the overflow on. The module returns it once, for the zero. */
+/** The crate returns `too_small` for each byte from the first one that doesn't fit. The module returns it once, for the zero. */
 function withoutRepeats(wanted, pieces) {
   const stream = joined(pieces.filter((piece) => piece !== "reset").map(bytesOf));
   const kept = [];
@@ -164,7 +164,7 @@ const calls = {
     return [[status, length, status === "ok" ? message : "-"], decodedByModule(bytes)];
   },
   decode_vec_with_sentinel([sentinel, source], level) {
-    // `decode` of jcobs.js skips sentinels in front for every sentinel, so it is held to frames alone
+    // `decode` of jcobs.js skips leading sentinels, whatever the sentinel is, so it is compared only for frames
     return level === "owed" ? [decodedByModule(bytesOf(source), bytesOf(sentinel)[0])] : [];
   },
   decode([source, room]) {

@@ -101,7 +101,7 @@ await check("calls about as long as the memory that they share leave an open dec
   const message = new Uint8Array(100_000).fill(1);
   const frame = cobs.encode(message, { terminated: true });
   const calls = {
-    // each with the bytes that it puts into the memory for so many of its own
+    // the call, how many bytes it puts into the memory for each byte of its argument, and a function that makes an argument
     decode: [(given) => cobs.decode(given), 2, (length) => new Uint8Array(length).fill(1)],
     encode: [(given) => cobs.encode(given), 2 + 1 / 128, (length) => new Uint8Array(length)],
     frameKind: [(given) => cobs.frameKind(given), 1, (length) => new Uint8Array(length).fill(1)],

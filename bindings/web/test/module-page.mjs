@@ -26,7 +26,7 @@ await check("the curve of overhead is as high as the greatest length says, at ea
     const svg = curve({ most, length, overhead: most(length) });
     const range = Math.max(1016, Math.ceil((length + 1) / 254) * 254);
     const numberAt = ([, x, y]) => ({ x: Number(x), y: Number(y) });
-    // what stands at the axes says which place is which number
+    // the labels of the axes say which position stands for which number
     const marks = [...svg.matchAll(/<text class="at" x="([\d.]+)" y="([\d.]+)">([\d,]+)<\/text>/g)].map((found) => ({ ...numberAt(found), number: Number(found[3].replaceAll(",", "")) }));
     const below = marks.filter(({ y }) => y === marks[0].y);
     const beside = marks.filter(({ x }) => x === marks.at(-1).x);

@@ -165,7 +165,7 @@ await check("page: the site links to the repository's files if it is told their 
     await throws(() => build("javascript:alert(1)"), (error) => String(error.stderr).includes("REPOSITORY"), "an address that is none");
     await throws(() => build("", 'https://x"y'), (error) => String(error.stderr).includes("ADDRESS"), "an address of its own that is none");
     build("https://example.org/cobs/blob/main", "https://example.org/cobs");
-    // by plain HTTP from elsewhere, which is no secure context: there is no clipboard and no Web Serial
+    // over plain HTTP from another host: this isn't a secure context, so there is no clipboard and no Web Serial
     const page = await other.open(`${site.address.replace("localhost", "cobs.test")}deep/index.html`);
     await page.until(READY);
     const found = await links(page);

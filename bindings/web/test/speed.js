@@ -8,7 +8,7 @@ const STREAM = 16 * MIB;
 const CALL = 200; // what a call costs, in bytes: how often short ones are made
 const MAX_LENGTH = 65536;
 
-/** Returns the same bytes in each run. `zeros` of a thousand bytes are zero. */
+/** Returns the same bytes in each run. About `zeros` of each thousand bytes are zero. */
 function bytes(length, zeros, seed) {
   let state = seed;
   return Uint8Array.from({ length }, () => {
@@ -17,7 +17,7 @@ function bytes(length, zeros, seed) {
   });
 }
 
-/** Returns about 1 MiB of frames, of messages of `length` bytes. */
+/** Returns about 1 MiB of frames. Each message has `length` bytes. */
 function framesOf(length, zeros) {
   const frames = [];
   let size = 0;
@@ -93,7 +93,7 @@ const messages = {};
 const encoded = {};
 const encodedOnce = (kind) => (encoded[kind] ??= encode(messages[kind]));
 
-/** Repeats a call for about 1 MiB, where each call counts as CALL more bytes. Returns the sum of the results' lengths, and the number of bytes. */
+/** Repeats a call until about 1 MiB is processed. Each call counts as CALL more bytes than its message has. Returns the sum of the results' lengths, and the number of bytes. */
 function called(kind, act, bytes) {
   const times = Math.ceil(MIB / (messages[kind].length + CALL));
   let sum = 0;

@@ -1,4 +1,5 @@
--- The format: frames, blocks, lengths, the frames that encoders write, and that they are unique.
+-- The format: frames and their blocks, the lengths of frames, the encoded frame of each message, frames for other
+-- sentinels, and streams of frames.
 pub mod FrameLemmas
 pub mod JoinLemmas
 pub mod GrammarLemmas

@@ -62,7 +62,7 @@ pub record Feeds (buffer : List ℕ) (phase : Phase) (byte : ℕ) (result : Resu
   pub returned : (p : List ℕ) → PhaseAfter (length buffer) phase p → result ≡ result_for p byte (length buffer)
   pub phased : (p : List ℕ) → PhaseAfter (length buffer) phase p → PhaseAfter (length buffer) phase' (fed p byte)
   pub after : (p : List ℕ) → DecoderAfter buffer phase p → DecoderAfter buffer' phase' (fed p byte)
-  -- the bytes of the buffer after the output of the piece so far don't change
+  -- a nonzero byte doesn't change the bytes of the buffer after the output of p and this byte
   pub untouched : (p : List ℕ) → PhaseAfter (length buffer) phase p → byte ≢ 0
       → drop (length (output (p ++ byte ∷ []))) buffer' ≡ drop (length (output (p ++ byte ∷ []))) buffer
   -- the remaining fields hold in every phase

@@ -38,7 +38,8 @@ FeedsEach buffer phase (byte ∷ bytes) buffer' phase' =
 -- outcomes of the pieces that end in the bytes
 pub record TakesBytes (buffer : List ℕ) (phase : Phase) (bytes : List ℕ) (given : List Outcome) (buffer' : List ℕ) (phase' : Phase) : Type 0 where
   pub len : length buffer' ≡ length buffer
-  -- the field `feeds` holds in every phase
+  -- the fields `len` and `feeds` hold in every phase; in the other fields, p is the front of a piece that had been fed
+  -- before these bytes
   pub feeds : FeedsEach buffer phase bytes buffer' phase'
   pub after : (p : List ℕ) → DecoderAfter buffer phase p → DecoderAfter buffer' phase' (unended (p ++ bytes))
   pub outcomes : (p : List ℕ) → DecoderAfter buffer phase p → given ≡ stream_outcomes (p ++ bytes) (length buffer)
@@ -85,8 +86,8 @@ abbrev pub outcomes_taken : Option (PieceEnd × ℕ) → List ℕ → List Outco
 outcomes_taken None buffer = []
 outcomes_taken (Some (end, count)) buffer = outcome_at end buffer ∷ []
 
--- the byte at index `count - 1` is the first zero that ends a piece, for a decoder with this phase and a buffer of n
--- bytes
+-- the byte at index `count - 1` is a zero, and no piece ends before it, for a decoder with this phase and a buffer of n
+-- bytes (the field `outcomes` of `TakesBytes` says that this zero ends a piece)
 pub record EndsPiece (n : ℕ) (phase : Phase) (bytes : List ℕ) (count : ℕ) : Type 0 where
   pub front : List ℕ
   pub taken : take count bytes ≡ front ++ 0 ∷ []

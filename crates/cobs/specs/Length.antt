@@ -21,7 +21,7 @@ encoded_len m = length m + 1 + full_blocks (runs m)
 
 -- the length of an encoded frame from its open block to its end, after these bytes are appended to the message. The
 -- open block has this code, so it already has code - 1 nonzero bytes. Only the number of these nonzero bytes matters,
--- so the definition uses ones in their place (`law_15: same`).
+-- so the definition uses ones in their place (clause `same` of `law_15`).
 abbrev pub open_len : ℕ → List ℕ → ℕ
 open_len code bytes = encoded_len (replicate (code - 1) 1 ++ bytes)
 

@@ -1,5 +1,6 @@
--- A piece is one or more nonzero bytes of a stream. A piece is cut into parts. Each part is a block, except that the
--- last part may be the front of a block.
+-- A piece consists of the bytes between two neighbouring zeros of a stream, before its first zero, or after its last
+-- zero; there is at least one byte. A piece is cut into parts. Each part is a block, except that the last part may be
+-- the front of a block.
 use Rattle.std.specs.Prelude.{ℕ, zero, suc, ◌-◌, ◌==◌, Bool, false, List, [], ◌∷◌, length, take, if◌then◌else◌, IsTrue}
 use Rattle.cobs.specs.Grammar.{code_of, bytes_of, message_of, last_of}
 

@@ -43,7 +43,7 @@ pushed_outcomes bytes (Err failure) buffer =
     if slice_index bytes (failure.parsed_size - 1) == 0 then error_outcomes failure.error else []
 
 -- the bytes are fed one after another, and change buffer and phase to `buffer'` and `phase'`. `feed` returns `Ok(None)`
--- for each byte except the last one, and `returned` for the last byte.
+-- for each byte except the last one, and `returned` for the last byte. If there are no bytes, `returned` is `Ok(None)`.
 abbrev pub FeedsInTurn : List ℕ → Phase → List ℕ → Result (Option ℕ) DecodeError → List ℕ → Phase → Type 0
 FeedsInTurn buffer phase [] returned buffer' phase' = (returned ≡ Ok None) × (buffer' ≡ buffer) × (phase' ≡ phase)
 FeedsInTurn buffer phase (byte ∷ []) returned buffer' phase' = Feeds buffer phase byte returned buffer' phase'
@@ -61,7 +61,7 @@ last_result (Err failure) = Err failure.error
 pub record PushesBytes (buffer : List ℕ) (phase : Phase) (bytes : List ℕ)
     (result : Result (Option DecodeReport) PushError) (buffer' : List ℕ) (phase' : Phase) : Type 0 where
   -- `feed` returns `Ok(None)` for each byte that was consumed, except for the last one. For the last byte it returns
-  -- the result of the push.
+  -- the result that `last_result` derives from the result of the push.
   pub push_returns : (p : List ℕ) → PhaseAfter (length buffer) phase p → (place : ℕ) → place < consumed_size bytes result
       → result_for (unended (p ++ take place bytes)) (slice_index bytes place) (length buffer)
       ≡ (if place + 1 == consumed_size bytes result then last_result result else Ok None)

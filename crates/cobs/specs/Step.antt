@@ -1,14 +1,14 @@
 -- The step of a streaming decoder for one byte, in any phase: the result, the next phase and the next buffer. You can
 -- write a decoder of your own with this step. The clauses of `take_byte` cite these definitions; no clause of `feed`
--- does. The clause of `feed` is `Feeds`, which names the front of the piece that was fed before the byte. `law_17`
--- states that this step meets `Feeds`.
+-- does. The clause `feeds` of `feed` states `Feeds`, which names the front of the piece that was fed before the byte.
+-- `law_17` states that this step meets `Feeds`.
 use Rattle.std.specs.Prelude.{ℕ, zero, suc, ◌+◌, ◌-◌, ◌==◌, nat_lt, nat_le, min, Bool, true, false, List, slice_set, Option, Some, None, Result, Ok, Err, if◌then◌else◌}
 use Rattle.cobs.specs.Feed.{Phase, Idle, Within, Overlong}
 use Rattle.cobs.specs.declared.error.DecodeError.{DecodeError}
 use Rattle.cobs.specs.declared.error.DecodeError.TheVariants.{InvalidFrame, TargetBufTooSmall}
 
 -- the phase after one more byte is written to a buffer of n bytes that has `count` bytes of output, or `Overlong` if
--- the buffer has no room for another byte
+-- the buffer has no room for another byte; `full` and `left` describe the open block after this step
 abbrev pub grows : ℕ → Bool → ℕ → ℕ → Phase
 grows n full left count = if nat_lt count n then Within full left (count + 1) else Overlong
 

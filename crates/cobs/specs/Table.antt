@@ -41,7 +41,7 @@ data_of (Ok (DataContinue byte)) = byte ∷ []
 data_of (Err error) = []
 
 -- the state after the front p of a piece: how many bytes of the last part of p are missing, and whether the code of
--- this part is 255
+-- this part is 255; `Idle` if p is empty
 abbrev pub state_after : List ℕ → DecoderState
 state_after [] = Idle
 state_after (byte ∷ bytes) =
@@ -63,13 +63,15 @@ state_in (phases.Within false left count) = Some (Grab left)
 state_in (phases.Within true left count) = Some (GrabChain left)
 state_in phases.Overlong = None
 
--- how many bytes of the piece's output a decoder with this phase has written
+-- how many bytes of the piece's output a decoder with this phase has written. For `Overlong`, the value 0 has no
+-- meaning: `FeedsByTable` says nothing about this phase.
 abbrev pub written_in : Phase → ℕ
 written_in phases.Idle = 0
 written_in (phases.Within full left count) = count
 written_in phases.Overlong = 0
 
--- the result of a streaming decoder that has written n bytes, given the result of the table
+-- the result of a streaming decoder that has written n bytes, given the result of the table, if the buffer has room for
+-- the byte of the message that the table's result may contain
 abbrev pub counted : ℕ → Result DecodeResult DecodeError → Result (Option ℕ) DecodeError
 counted n (Ok NoData) = Ok None
 counted n (Ok DataStart) = Ok None
@@ -81,7 +83,7 @@ counted n (Err error) = Err (InvalidFrame n)
 -- `phase'`, as the table says. Nothing is stated for the phase `Overlong`, because no state of the table corresponds to
 -- it.
 pub record FeedsByTable (n : ℕ) (phase : Phase) (byte : ℕ) (result : Result (Option ℕ) DecodeError) (phase' : Phase) : Type 0 where
-  -- the state changes as the table says, unless the output is now too long
+  -- the state changes as the table says, unless the output is too long after this byte
   pub next : (state : DecoderState) → state_in phase ≡ Some state → phase' ≢ phases.Overlong → state_in phase' ≡ Some (table_state state byte)
   -- the result is that of the table, unless the table's result contains a byte of the message for which the buffer has
   -- no room

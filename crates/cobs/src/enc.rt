@@ -39,8 +39,8 @@ pub use vector::{encode_vec, encode_vec_including_sentinels, encode_vec_with_sen
 /// The frame consists of blocks, as in Cheshire and Baker's paper. A message that ends in a run of nonzero bytes has
 /// two frames if the length of this run is a positive multiple of 254. The longer frame is the shorter one followed by
 /// the byte `1`. This function writes the shorter frame; this is the library's own choice. No byte of the frame is the
-/// sentinel 0, and no sentinel is written before or after the frame. The bytes of `dest` after the frame stay as they
-/// were.
+/// sentinel 0, and no sentinel is written before or after the frame. The bytes of `dest` after the frame stay
+/// unchanged.
 ///
 /// Precondition: the frame fits `dest`. The frame always fits if the length of `dest` is at least
 /// [`max_encoding_length(source.len())`](crate::max_encoding_length). If you don't know whether the frame fits, call

@@ -6,8 +6,8 @@ use serde::{Deserialize, Serialize};
 use std::alloc::AllocError;
 use thiserror::Error;
 
-/// The error of an encoder: the frame is longer than the slice to which it should be written, or the encoder's state
-/// isn't possible in a slice of this length.
+/// The error of an encoder. Either the frame is longer than the slice to which it should be written, or the encoder's
+/// state isn't possible in a slice of that length.
 ///
 /// ```
 /// let text = DestBufTooSmallError.to_string(alloc)?;
@@ -17,7 +17,7 @@ use thiserror::Error;
 #[error("out of bounds error during encoding")]
 pub struct DestBufTooSmallError;
 
-/// The reason why a frame is rejected. The names of the variants are those of the Rust crate `cobs`.
+/// The reason why a frame is rejected. The variants have the same names as in the Rust crate `cobs`.
 ///
 /// ```
 /// assert_eq!(rt; decode(&[], &mut [0; 4]), Err(DecodeError::EmptyFrame));
@@ -46,7 +46,7 @@ pub enum DecodeError {
 /// The error of a `push` to a streaming decoder, with the number of bytes that were consumed. The Rust crate `cobs` has
 /// no such type.
 ///
-/// The decoder has consumed the first `parsed_size` of the pushed bytes. To continue, the caller pushes the bytes that
+/// The decoder has consumed the first `parsed_size` bytes of the push. To continue, the caller pushes the bytes that
 /// weren't consumed.
 ///
 /// ```
@@ -68,7 +68,7 @@ pub struct PushError {
     pub parsed_size: usize,
 }
 
-/// The reason why a call returned no vector. If memory runs out, the call returns `Memory` and doesn't abort the
+/// The reason why a call returned no vector. If memory runs out, the call returns `Memory` instead of aborting the
 /// program. The Rust crate `cobs` has no such type.
 ///
 /// ```
@@ -77,7 +77,7 @@ pub struct PushError {
 /// ```
 #[derive(Debug, Drop, PartialEq, Eq, Error)]
 pub enum DecodeVecError {
-    /// The source can't be decoded, for this reason.
+    /// The source can't be decoded. The `DecodeError` says why.
     #[error("{0}")]
     Decode(DecodeError),
 
@@ -87,7 +87,7 @@ pub enum DecodeVecError {
 }
 
 /// A report about a decoded message: how many bytes of the source were consumed, and how many bytes the message has.
-/// The names of the methods are those of the Rust crate `cobs`.
+/// The methods have the same names as in the Rust crate `cobs`.
 ///
 /// ```
 /// let report = decode(&[0, 3, 1, 2, 0, 1], &mut [0; 4])?;
@@ -102,7 +102,7 @@ pub struct DecodeReport {
 
 impl DecodeReport {
     /// Returns how many bytes of the source were consumed. The documentation of the call that made the report says
-    /// whether leading sentinels, and the sentinel after the frame, are counted.
+    /// whether this number includes leading sentinels and the sentinel after the frame.
     ///
     /// ```
     /// assert_eq!(rt; decode(&[0, 1, 0], &mut [])?.parsed_size(), 3);

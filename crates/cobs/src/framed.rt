@@ -16,7 +16,7 @@ ghost use Rattle.cobs.specs.Internal.KeptBytes.{DecoderHasTaken, IsOutcome, Repo
 use crate::dec::{FrameDecoder, PieceEnd};
 use std::io::Read;
 
-/// The result of a call of [`next_frame`](FrameReader::next_frame) that didn't fail.
+/// The result of a successful call of [`next_frame`](FrameReader::next_frame).
 ///
 /// ```
 /// let mut source = Recorded::new([3, 7, 0].as_slice());
@@ -25,15 +25,15 @@ use std::io::Read;
 /// ```
 #[derive(Debug, PartialEq, Eq, Drop)]
 pub enum Next {
-    /// A piece ended, and it is a frame whose message has this many bytes. The message is at the front of the decoder's
+    /// A piece ended. It is a frame whose message has this many bytes. The message is at the front of the decoder's
     /// buffer.
     Message(usize),
 
-    /// A piece ended, and it breaks off inside a block. The piece decodes to this many bytes, including those of the
-    /// broken block. The decoded bytes are at the front of the decoder's buffer.
+    /// A piece ended. It breaks off inside a block, and decodes to this many bytes, including those of the broken
+    /// block. The decoded bytes are at the front of the decoder's buffer.
     Broken(usize),
 
-    /// A piece ended, and it decodes to more bytes than the decoder's buffer has room for.
+    /// A piece ended. It decodes to more bytes than the decoder's buffer has room for.
     TooLong,
 
     /// The source returned no more bytes, and no piece ended.
@@ -72,8 +72,8 @@ pub enum ReadFault {
 /// A source from which the bytes of a stream are read.
 ///
 /// Contracts describe a source by the relation `step`. `step before result after` holds if a read of a source in the
-/// state `before` may have this result and leave the source in the state `after`. The result of a read is a failure, or
-/// the bytes that the read returned.
+/// state `before` may have the result `result` and leave the source in the state `after`. The result of a read is
+/// either a failure or the bytes that the read returned.
 ///
 /// ```
 /// let mut source = Recorded::new([2, 7].as_slice());
@@ -83,7 +83,7 @@ pub enum ReadFault {
 /// assert_eq!(rt; source.read_some(&mut chunk), Some(0));
 /// ```
 pub trait FrameSource {
-    /// Says whether a read of a source in the first state may have this result and leave the source in the second
+    /// Says whether a read of a source in the first state may have the given result and leave the source in the second
     /// state.
     ghost step: { Self → Option (List ℕ) → Self → Type 0 };
 
@@ -103,8 +103,8 @@ pub trait FrameSource {
         ensures step { step self.old (option_map (λ n. take n chunk.new) result) self.new };
 }
 
-/// A source that gets its bytes from any `Read`. Each call of `read_some` makes one read, and each error of the `Read`
-/// counts as a failed read.
+/// A source that gets its bytes from a reader of any type that implements `Read`. Each call of `read_some` makes one
+/// read, and each error of the reader counts as a failed read.
 ///
 /// ```
 /// let mut source = Recorded::new([1, 0, 2].as_slice());
@@ -173,8 +173,7 @@ fn next_at(end: PieceEnd) -> Next
     }
 }
 
-/// Returns whether a piece is unfinished after these bytes. `before` says whether a piece was unfinished before these
-/// bytes.
+/// Returns whether a piece is unfinished after `bytes`. `before` says whether a piece was unfinished before `bytes`.
 fn is_unfinished(before: bool, bytes: &[u8]) -> bool
     ensures unfinished { (p : List ℕ) → before ≡ is_nonempty p → HasNoZero p →
         result ≡ is_nonempty (unended (p ++ bytes.now)) }
@@ -211,8 +210,8 @@ pub struct FrameReader<D: FrameDecoder> {
     start: usize,
     end: usize,
 
-    /// Whether a piece has begun and hasn't ended yet. If bytes have been fed, this is true exactly if the last of them
-    /// isn't a zero.
+    /// Whether a piece has begun and hasn't ended yet. Once a byte has been fed, this is true if and only if the last
+    /// byte that was fed isn't a zero.
     unfinished: bool,
 
     ghost ordered: { start ≤ end },
@@ -304,8 +303,8 @@ impl<D: FrameDecoder> FrameReader<D> {
     /// `Next::End` if the source ends before such a zero.
     ///
     /// The call first uses the bytes that earlier calls have kept. If no piece ends in these bytes, the call makes up
-    /// to 65,536 reads from the source. The call stops after the first read that returned the end of a piece, that
-    /// failed, or that returned no bytes. The bytes after the end of the piece are kept for the next call. After
+    /// to 65,536 reads from the source. The call stops after the first read that fails, that returns no bytes, or that
+    /// returns the zero at the end of a piece. The bytes after the end of the piece are kept for the next call. After
     /// `Next::End` the stream may continue, in this source or in another one.
     ///
     /// # Errors

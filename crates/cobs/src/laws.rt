@@ -1,7 +1,7 @@
 //! The laws of messages, frames, pieces and streams. Each law is a function whose contract states the law. The function
 //! does nothing when it runs. If a function calls a law, the function's proof can use the law. The example of each law
-//! is such a function. Some examples call `reads_as`, which CALLING.md shows. If an example needs a proof, the proof
-//! follows: it is the caller's `Answers.antt` without the line `use Rattle.CRATE.proofs.CALLER.Goals as goal`.
+//! calls the law. Some examples call `reads_as`, which CALLING.md shows. If an example needs a proof, the proof
+//! follows. It is the caller's `Answers.antt` without the line `use Rattle.CRATE.proofs.CALLER.Goals as goal`.
 //!
 //! ```
 //! fn encode_by_longest(source: &[u8], dest: &mut [u8]) -> usize
@@ -30,10 +30,10 @@ pub use coders::{law_15, law_16, law_17, law_18, law_19, law_20, law_21};
 
 /// A frame reads as its output.
 ///
-/// The output of bytes is the message that their blocks stand for, even if the last block isn't complete. The bytes
-/// read as their output, and as no other message, if three conditions hold: there is at least one byte, no byte is a
-/// zero, and the last block is complete. Otherwise the bytes read as no message. The output is never longer than the
-/// bytes. If another byte is appended to the bytes, their output doesn't get shorter.
+/// The output of some bytes is the message that their blocks stand for, even if the last block isn't complete. The
+/// bytes read as their output, and as no other message, if three conditions hold: there is at least one byte, no byte
+/// is a zero, and the last block is complete. Otherwise the bytes read as no message. The output is never longer than
+/// the bytes. Appending a byte to the bytes never shortens their output.
 ///
 /// So a decoder that only checks whether the last block is complete accepts every frame, and rejects every other piece.
 ///
@@ -87,10 +87,10 @@ pub fn law_2()
 
 /// All frames of a message.
 ///
-/// Each message has an encoded frame. It has a second frame only if it ends in a full run, that is, in a run of nonzero
-/// bytes whose length is a positive multiple of 254. The second frame is the encoded frame followed by the byte `1`. A
-/// protocol may allow only one frame for each message, for example because its receivers compare frames. The receivers
-/// then use [`frame_kind`](crate::frame_kind) to recognize the longer frame, and reject it.
+/// Each message has an encoded frame. A message has a second frame only if it ends in a full run, that is, in a run of
+/// nonzero bytes whose length is a positive multiple of 254. The second frame is the encoded frame followed by the byte
+/// `1`. A protocol may allow only one frame for each message, for example because its receivers compare frames. The
+/// receivers then use [`frame_kind`](crate::frame_kind) to recognize the longer frame, and reject it.
 ///
 /// ```
 /// fn is_frame_for(piece: &[u8], message: &[u8], buffer: &mut [u8]) -> bool
@@ -109,9 +109,9 @@ pub fn law_3()
 
 /// The length of a frame, and its bound.
 ///
-/// An encoded frame is longer than its message. For a message of n bytes, it has at most
-/// [`max_encoding_length(n)`](crate::max_encoding_length) bytes. If the message has no zeros, its frame is exactly this
-/// long, so for every n some frame reaches the bound. Appending bytes to a message never shortens its frame.
+/// An encoded frame is longer than its message. The encoded frame of a message of n bytes has at most
+/// [`max_encoding_length(n)`](crate::max_encoding_length) bytes. If the message has no zeros, its frame has exactly
+/// this length, so for every n some frame reaches the bound. Appending bytes to a message never shortens its frame.
 ///
 /// ```
 /// fn encode_nonzero(source: &[u8], dest: &mut [u8]) -> usize
@@ -134,8 +134,8 @@ pub fn law_4()
 
 /// Equal frames, equal messages.
 ///
-/// If the encoded frames of two messages are equal, the messages are equal. A frame reads as only one message. So a
-/// frame keeps all information in its message, and no receiver reads a different message from the frame.
+/// If the encoded frames of two messages are equal, the messages are equal. A frame reads as only one message. So
+/// encoding a message loses no information, and no receiver reads a different message from the frame.
 ///
 /// ```
 /// fn are_equal(alloc: Global, first: &[u8], second: &[u8]) -> Result<bool, AllocError>
@@ -158,8 +158,9 @@ pub fn law_5()
 /// The frame with the sentinel `s` doesn't contain `s`, and a second XOR with `s` restores the original frame.
 ///
 /// A receiver finds the end of a frame by searching for the sentinel, so a frame must not contain its sentinel. The
-/// clause `free` states this for a sent frame, and `received` for received bytes that the XOR turns into a frame. If
-/// bytes don't contain `s`, they contain no zero after the XOR (`coded`). An XOR with 0 changes nothing (`zero`).
+/// clause `free` says that a sent frame doesn't contain its sentinel. The clause `received` says that received bytes
+/// don't contain it if the XOR turns them into a frame. Bytes without `s` contain no zero after the XOR (`coded`). An
+/// XOR with 0 changes nothing (`zero`).
 ///
 /// ```
 /// fn as_received<'a>(frame: &'a [u8], sentinel: u8) -> &'a [u8]
@@ -214,7 +215,7 @@ pub fn law_7()
 /// Frames joined without a sentinel.
 ///
 /// Two frames without a sentinel between them are one frame. The message of this frame consists of the first frame's
-/// message, a zero unless the first frame ends in a full block, and the second frame's message.
+/// message, a zero (unless the first frame ends in a full block), and the second frame's message.
 ///
 /// So if the sentinel between two frames is lost, a receiver reads one message, and can't know that two messages were
 /// sent. To notice a lost sentinel, put a checksum of your own into each message.
@@ -250,10 +251,10 @@ pub fn law_8()
 /// unended bytes of x before y, and call the result z. Then the outcomes of the stream are the outcomes of x, followed
 /// by the outcomes of z. The pieces of the stream that a zero ends are those of x, followed by those of z. The unended
 /// bytes of the stream are those of z. A stream that ends in a zero has no unended bytes. In a stream without zeros,
-/// all bytes are unended, and there is no outcome. One or more nonzero bytes that a zero ends are one piece.
+/// all bytes are unended, and there is no outcome. One or more nonzero bytes with a zero after them are one piece.
 ///
-/// So a receiver may decode a stream in chunks of any length, as reads return them. The outcomes of all chunks, in
-/// order, are those that one call for the stream returns. `decode_stream`, `push` and `FrameReader` use this law.
+/// So a receiver may decode each chunk that a read returns, however long the chunk is. The outcomes of all chunks, in
+/// order, are those that one call for the whole stream returns. `decode_stream`, `push` and `FrameReader` use this law.
 ///
 /// ```
 /// fn decode_in_two<D: FrameDecoder>(
@@ -288,10 +289,9 @@ pub fn law_9()
 
 /// Damage stays between its sentinels.
 ///
-/// If bytes between two sentinels are changed, lost or added, the pieces before the first and after the second sentinel
-/// keep their outcomes, even if the damage adds sentinels. If there are bytes between the sentinels, but no other
-/// sentinel, these bytes are one piece with one outcome. If the two sentinels are adjacent, there is no piece between
-/// them.
+/// If bytes between two sentinels are changed, lost or added, the pieces before the first sentinel and after the second
+/// sentinel keep their outcomes, even if the damage adds sentinels. If there are bytes between the sentinels, but no
+/// other sentinel, these bytes are one piece with one outcome. Two adjacent sentinels have no piece between them.
 ///
 /// So on a noisy line, or in a damaged file of records, only the messages that the damage touches are lost.
 ///
@@ -348,15 +348,15 @@ pub fn law_11()
 
 /// The first and the last piece of a stream.
 ///
-/// If a stream begins with a nonzero byte, its first piece consists of the bytes before the first zero. In a buffer as
-/// long as the stream, the outcome of the first piece is the message m if and only if the piece reads as m. Zeros
+/// If a stream begins with a nonzero byte, its first piece consists of the bytes before the first zero. If the buffer
+/// is as long as the stream, the outcome of the first piece is the message m if and only if the piece reads as m. Zeros
 /// before the first piece are skipped: the piece begins after these zeros, and ends at the next zero or at the end of
 /// the stream. An empty stream and a stream of only zeros have no piece. A search that stops at the first zero, or at
 /// the end of a stream without zeros, finds the bytes before the first zero (`head`). The clause `head_for` states this
 /// for other sentinels. As long as no piece has ended, the unended bytes are the last piece, and the next zero ends it.
 ///
-/// So for a source that begins with a nonzero byte, `decode_in_place` returns the same message as `decode` with a
-/// buffer as long as the source, or both return an error.
+/// So if a source begins with a nonzero byte, `decode_in_place` returns the same message as `decode` with a buffer as
+/// long as the source, or both calls return an error.
 ///
 /// ```
 /// fn begins_with_piece(stream: &[u8]) -> bool
@@ -393,7 +393,7 @@ pub fn law_12()
 /// The open frame of a streaming encoder.
 ///
 /// A frame is open if its last block isn't full. A caller of [`EncoderState`](crate::EncoderState) writes a message's
-/// open frame. This law states the length of the output so far, and how the open frame differs from the encoded one.
+/// open frame. This law states the length of the output so far, and how the open frame differs from the encoded frame.
 ///
 /// So if a caller does what each [`PushResult`](crate::PushResult) says, the placeholder for the next code is always
 /// within the output. The final output is the encoded frame, followed by the byte `1` if the message has two frames.
@@ -426,8 +426,8 @@ pub fn law_13()
 
 /// A decoder is idle exactly if no piece has begun.
 ///
-/// So [`FrameReader::new`](crate::FrameReader::new) accepts a decoder if the last byte that was fed to it was a zero. A
-/// new decoder decodes a frame if the frame and the zero after it are pushed in one `push`.
+/// So [`FrameReader::new`](crate::FrameReader::new) accepts a decoder if the last byte that was fed to it was a zero.
+/// If a frame and the zero after it are pushed to a new decoder in one `push`, the decoder decodes the frame.
 ///
 /// ```
 /// fn reader_after_zero(mut decoder: CobsDecoderOwned) -> FrameReader<CobsDecoderOwned>

@@ -5,10 +5,10 @@
 //! serial line or in a file. If a frame is damaged, the receiver waits for the next sentinel and reads the frame after
 //! that sentinel. A frame is a list of blocks. A block is a code followed by up to 254 nonzero bytes. The code is the
 //! length of the block in bytes, including the code itself. A block with the code 255 is full: 254 nonzero bytes follow
-//! its code. The boundary between two blocks stands for a zero of the message, unless the first of these two blocks is
-//! full. The frame of a message of up to 254 bytes is one byte longer than the message. The frame of a longer message,
-//! of `n` bytes, is at most `n / 254` (rounded up) bytes longer than the message. The format is that of the paper
-//! "Consistent Overhead Byte Stuffing" by Stuart Cheshire and Mary Baker.
+//! its code. After the bytes of each block but the last, the message has a zero, unless that block is full. The frame
+//! of a message of up to 254 bytes is one byte longer than the message. If a longer message has `n` bytes, its frame is
+//! longer than the message by at most `n / 254` bytes, rounded up. The format is that of the paper "Consistent Overhead
+//! Byte Stuffing" by Stuart Cheshire and Mary Baker.
 //!
 //! This example encodes a message, and then decodes the frame:
 //!
@@ -48,8 +48,8 @@
 //! - [`try_encode`] returns an error if the frame doesn't fit the slice.
 //! - [`encode_vec`] returns the frame in a new vector.
 //! - [`encode_in_place`] writes the frame to the buffer that holds the message.
-//! - The forms `.._with_sentinel` use a sentinel other than 0, and the forms `.._including_sentinels` write a sentinel
-//!   on each side of the frame.
+//! - The calls whose names end in `_with_sentinel` use a sentinel other than 0. The calls whose names end in
+//!   `_including_sentinels` write a sentinel on each side of the frame.
 //!
 //! To encode a message that comes in chunks:
 //!
@@ -62,7 +62,7 @@
 //! - [`decode`] writes the message to a slice.
 //! - [`decode_vec`] returns the message in a new vector.
 //! - [`decode_in_place`] writes the message to the buffer that holds the frame.
-//! - The forms `.._with_sentinel` use a sentinel other than 0.
+//! - The calls whose names end in `_with_sentinel` use a sentinel other than 0.
 //!
 //! To decode frames from a serial line:
 //!
@@ -71,7 +71,7 @@
 //! - [`CobsDecoderHeapless`] decodes into a buffer that is part of the decoder.
 //! - [`UnbufferedDecoder`] decodes into a buffer that you pass to each call.
 //! - [`DecoderState`] has no buffer: you write the decoded bytes to a container of your own.
-//! - [`FrameReader`] reads frames from any reader.
+//! - [`FrameReader`] reads frames from any source of bytes.
 //!
 //! Other calls, and the laws:
 //!
@@ -124,8 +124,8 @@ pub use stream::{FrameOutcome, decode_stream, encode_frames, encode_frames_room}
 ///
 /// The greatest overhead is `source_len / 254`, rounded up, or 1 if the message is empty. A message without zeros has
 /// this overhead, because its frame has one code for every 254 bytes, and one code for the remaining bytes, if any. The
-/// frame of the empty message has one code. Sentinels before and after the frame aren't counted. The bound is that of
-/// the paper by Cheshire and Baker.
+/// frame of the empty message has one code. Sentinels before and after the frame aren't counted. The bound is from the
+/// paper by Cheshire and Baker.
 ///
 /// ```
 /// assert_eq!(rt; max_encoding_overhead(0), 1);

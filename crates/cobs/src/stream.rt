@@ -2,10 +2,10 @@
 //! `encode_frames` encodes several messages.
 //!
 //! A stream is cut at its zeros. A piece consists of the bytes between two neighbouring zeros, or before the first
-//! zero. It has at least one byte. There are three outcomes: a piece is a frame, breaks off inside a block, or decodes
-//! to more bytes than the buffer has room for. Each piece is decoded separately, so damage to one piece has no effect
-//! after the next zero. (The rule that a zero ends each frame is from Cheshire and Baker's paper. The outcomes of
-//! pieces that are broken or too long are a choice of this library.)
+//! zero. It has at least one byte. There are three outcomes: the piece is a frame, it breaks off inside a block, or it
+//! decodes to more bytes than the buffer has room for. Each piece is decoded separately, so damage to one piece has no
+//! effect after the next zero. (The rule that a zero ends each frame is from Cheshire and Baker's paper. The outcomes
+//! of pieces that are broken or too long are a choice of this library.)
 ghost use Rattle.std.specs.Prelude.{◌≡◌, ℕ, ◌+◌, ◌<◌, ◌≤◌, ◌^◌, List, [], ◌++◌, All, length, map, take, option_to_list, IfOk, IfSome, IsOk, IsSome, ◌↔◌, OnOk, OnErr, Contains};
 ghost use Rattle.cobs.specs.Feed.{DecoderAfter, PhaseAfter};
 ghost use Rattle.cobs.specs.Length.{max_encoded_len};
@@ -28,7 +28,7 @@ use std::alloc::{AllocError, Global};
 /// ```
 #[derive(Debug, PartialEq, Eq, Drop)]
 pub enum FrameOutcome {
-    /// The piece is a frame, and its message has these bytes.
+    /// The piece is a frame, and this vector contains the message.
     Message(Vec<u8>),
 
     /// The piece breaks off inside a block. The piece decodes to this many bytes, including those of the broken block.
@@ -38,7 +38,7 @@ pub enum FrameOutcome {
     TooLong,
 }
 
-/// Returns the outcome of a piece. `end` says how the piece ended, and `buffer` contains its output.
+/// Returns the outcome of a piece. `end` says how the piece ended, and `buffer` begins with the piece's output.
 fn frame_outcome(alloc: Global, end: PieceEnd, buffer: &[u8]) -> Result<FrameOutcome, AllocError>
     requires { IsWithin (length buffer.now) end }
     ensures { IfOk result (λ outcome. outcome_in outcome ≡ outcome_at end buffer.now) }
@@ -126,8 +126,8 @@ pub fn decode_stream<D: FrameDecoder>(
 /// An idle decoder whose buffer has room for each of these messages decodes the stream to exactly these messages. If
 /// there are no messages, the stream is empty.
 ///
-/// Precondition: [`encode_frames_room`] returns a number for the messages, not `None`. Memory is allocated once, for as
-/// many bytes as [`encode_frames_room`] returns.
+/// Precondition: [`encode_frames_room`] returns `Some(n)` for the messages, not `None`. Memory is allocated once, for
+/// `n` bytes.
 ///
 /// # Errors
 /// `AllocError` if memory runs out.
@@ -154,9 +154,9 @@ pub fn encode_frames(alloc: Global, messages: &[Vec<u8>]) -> Result<Vec<u8>, All
     Ok(frames)
 }
 
-/// Returns a number of bytes that is enough for the frames of the messages, with a zero after each frame. The number is
-/// a sum with two terms per message: [`max_encoding_length`](crate::max_encoding_length) of the message's length, and 1
-/// for the zero. Returns `None` if the number doesn't fit a `usize`.
+/// Returns how many bytes are enough for the frames of the messages and a zero after each frame. The number is a sum
+/// with two terms per message: [`max_encoding_length`](crate::max_encoding_length) of the message's length, and 1 for
+/// the zero. Returns `None` if the sum doesn't fit a `usize`.
 ///
 /// Call [`encode_frames`] only if this function returns `Some(n)`; `encode_frames` then allocates `n` bytes.
 /// `encode_frames_room` itself allocates nothing.

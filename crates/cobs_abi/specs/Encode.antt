@@ -28,9 +28,9 @@ abbrev pub EncodesTerminated : ℕ → List ℕ → List ℕ → Answer → List
 EncodesTerminated s message buffer result buffer' =
     Writes (encoded_len message + 1) (length message) (λ f. IsTerminatedFrame s f message) buffer result buffer'
 
--- `jcobs_encode_in_place`, for a message of n bytes that is in the buffer: if the buffer has room for the longest frame
--- of n bytes, the buffer begins with the message's frame after the call. Otherwise the call consumes and changes
--- nothing.
+-- `jcobs_encode_in_place`, for a message of n bytes that is in the buffer: if the buffer has room for the longest
+-- encoded frame of a message of n bytes, the buffer begins with the message's frame after the call. Otherwise the call
+-- consumes and changes nothing.
 pub record EncodesInPlace (n : ℕ) (buffer : List ℕ) (result : Answer) (buffer' : List ℕ) : Type 0 where
   pub fits : max_encoded_len n ≤ length buffer → result ≡ record { status = OK; consumed = n; length = encoded_len (message_in n buffer) }
   pub wanted : max_encoded_len n ≤ length buffer → IsFrameOnWire (take result.length buffer') (message_in n buffer)

@@ -26,7 +26,7 @@ pub record ReportsIdle (decoder : UnbufferedDecoder) (result : ℕ) : Type 0 whe
 
 -- `jcobs_decoder_push`; `jcobs_decoder_feed` of one byte; `jcobs_decoder_push_with_sentinel` of bytes that are XORed
 -- with the sentinel. The decoder consumes the bytes up to and including the zero that ends the first piece, or all
--- bytes if no piece ends
+-- bytes if no piece ends.
 pub record DecodesNext (decoder : UnbufferedDecoder) (buffer bytes : List ℕ) (result : Answer) (decoder' : UnbufferedDecoder) (buffer' : List ℕ) : Type 0 where
   pub takes : TakesPiece buffer (phase_of decoder) bytes (piece_end_of result) buffer' (phase_of decoder')
   pub more : result.status ≡ MORE

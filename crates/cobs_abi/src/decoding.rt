@@ -11,7 +11,7 @@ use crate::answer::{Answer, BROKEN, MORE, TOO_SMALL, done};
 use cobs::laws::law_17;
 use cobs::{PieceEnd, UnbufferedDecoder};
 
-/// Returns the number of decoded bytes of the open piece that are in the buffer. The buffer has `room` bytes. Even if the
+/// Returns how many decoded bytes of the open piece are in the buffer. The buffer has `room` bytes. Even if the
 /// decoder's state is corrupt, the number is at most `room`.
 #[inline(always)]
 fn held(decoder: &UnbufferedDecoder, room: usize) -> usize
@@ -24,9 +24,9 @@ fn held(decoder: &UnbufferedDecoder, room: usize) -> usize
     }
 }
 
-/// Returns the result of a call with `len` bytes of the stream and a buffer of `room` bytes. If a piece has ended in
-/// these bytes, `found` says how the piece ended, and how many bytes there are up to and including the zero that ended
-/// it.
+/// Returns the result of a call that was passed `len` bytes of the stream and a buffer of `room` bytes. If a piece has
+/// ended in these bytes, `found` says how the piece ended, and how many bytes there are up to and including the zero
+/// that ended it.
 #[inline(always)]
 pub fn result_of(
     decoder: &UnbufferedDecoder,
@@ -62,8 +62,8 @@ pub fn result_of(
     }
 }
 
-/// Decodes bytes of a stream of frames for this sentinel, and stops after the sentinel that ends the first piece. If no
-/// piece ends, decodes all the bytes.
+/// Decodes bytes of a stream whose frames were encoded with this sentinel, and stops after the sentinel that ends the
+/// first piece. If no piece ends, decodes all the bytes.
 #[inline(always)]
 pub fn decode_each(
     decoder: &mut UnbufferedDecoder,

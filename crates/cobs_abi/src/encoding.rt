@@ -1,8 +1,8 @@
 //! The calls of the streaming encoder, and the call that encodes a message in place. A program in C keeps the encoder's
 //! state. Each call returns an [`Answer`], the result as C sees it.
 //!
-//! A call of a law, such as `law_13()`, does nothing when it runs: it lets the proof of the function use the clauses of
-//! the law.
+//! A call of a law, such as `law_13()`, does nothing when it runs. It lets the proof of the calling function use the
+//! clauses of the law.
 ghost use Rattle.std.specs.Prelude.{◌≡◌, ◌<◌, ◌^◌, [], ◌∷◌};
 ghost use Rattle.cobs.specs.Fields.Encoders.{reached_by};
 ghost use Rattle.cobs.specs.OpenBlock.{end_of};
@@ -60,7 +60,8 @@ pub fn finish(encoder: &mut UnbufferedEncoder, buffer: &mut [u8]) -> Answer
     ensures finishes { Finishes 0 IsFrameOnWire encoder.old buffer.old result
         encoder.new buffer.new }
 {
-    // No frame fits an empty buffer. Without this test, a corrupt state could end in a frame of 0 bytes.
+    // No frame fits an empty buffer. Without this test, the call could return a frame of 0 bytes if the state is
+    // corrupt.
     if buffer.is_empty() {
         return too_small();
     }
@@ -94,8 +95,8 @@ pub fn finish_terminated(encoder: &mut UnbufferedEncoder, buffer: &mut [u8]) -> 
     }
 }
 
-/// Encodes a message of `message_len` bytes in place, if the buffer has room for the longest frame of a message of this
-/// length.
+/// Encodes a message of `message_len` bytes in place, if the buffer has room for the longest encoded frame of a message
+/// of this length.
 #[inline]
 pub fn encode_within(buffer: &mut [u8], message_len: usize) -> Answer
     ensures encodes { EncodesInPlace message_len buffer.old result buffer.new }

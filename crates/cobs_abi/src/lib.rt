@@ -1,5 +1,5 @@
-//! The code that the libraries for C share: the structs and numbers that are passed to C, and the postconditions of the
-//! exported calls.
+//! The code that the libraries for C share: the structs and numbers that are passed to C, functions that the exported
+//! calls use, and the postconditions of these calls.
 //!
 //! `cobs_c` exports all calls. `cobs_small` exports some of the calls, with other implementations. For most calls, one
 //! definition in `specs/` is the postcondition. The definition's name says what the call does. Both crates use these

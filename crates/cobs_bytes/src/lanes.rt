@@ -1,5 +1,5 @@
-//! Functions over any number of bytes. They copy bytes, copy bytes only if none of them is the sentinel, XOR bytes, or
-//! move bytes within one buffer. The old place and the new place of moved bytes may overlap.
+//! Functions that copy bytes, copy up to 64 bytes only if none of them is the sentinel, XOR bytes, or move bytes within
+//! one buffer. The old place and the new place of moved bytes may overlap.
 ghost use Rattle.std.specs.Prelude.{◌≡◌, ◌<◌, ◌≤◌, ◌+◌, ◌++◌, length, take, drop, IsTrue, false};
 ghost use Rattle.cobs_bytes.specs.Bytes.{HasNoZero, xor_each};
 

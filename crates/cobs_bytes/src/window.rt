@@ -1,4 +1,5 @@
-//! Functions that find zeros, and copy and write up to 64 bytes, in SIMD vectors.
+//! Functions that use SIMD vectors to find zeros among up to 64 bytes, to compare bytes, and to copy or write up to 64
+//! bytes.
 ghost use Rattle.std.specs.Prelude.{◌≡◌, ◌<◌, ◌≤◌, ◌+◌, ◌^◌, ◌++◌, ◌↔◌, IsTrue, length, take, drop, replicate, slice_index};
 ghost use Rattle.cobs_bytes.specs.Bytes.{HasNoZero};
 ghost use Rattle.cobs_bytes.specs.Mask.{zero_mask};

@@ -1,7 +1,7 @@
 -- Lemmas on a broken frame that was decoded in place, for `decode_long_in_place`. The head of a buffer consists of the
--- bytes before its first zero. The decoded bytes are no longer than the frame (`broken-within`), and the rest of the
--- buffer is as it was (`behind-kept`). So a search after the decoded bytes finds the zero after the frame
--- (`head-drop`).
+-- bytes before its first zero. There are at most as many decoded bytes as the frame has bytes (`broken-within`), and
+-- the rest of the buffer is as it was (`behind-kept`). So a search after the decoded bytes finds the zero after the
+-- frame (`head-drop`).
 use Rattle.std.proofs.Common.{◌≡◌, ◌≤◌, ◌+◌, ◌++◌, ◌∙◌, ℕ, zero, suc, List, [], ◌∷◌, Err, length, drop, sym, ap, arith, take_all}
 use Rattle.std.proofs.lemmas.Bool.{cases_Bool, ne_eqb}
 use Rattle.std.proofs.lemmas.List.{length-take}

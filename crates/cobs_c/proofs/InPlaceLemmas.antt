@@ -80,7 +80,8 @@ module _ (law : HeadLaw) (buffer : List ℕ) (end s : ℕ) (within : end ≤ len
   -- buffer
   pub front-result : (end ≡ 0 × length buffer ≡ 0) ⊎ (end ≢ 0) → result_in_place (xor_each s (take end buffer)) ≡ result_in_place (xor_each s buffer)
   front-result some =
-      -- there are as many XORed bytes as bytes, so the case that `same_result` leaves out is that of `some` too
+      -- there are as many XORed bytes as bytes, so the case that `same_result` leaves out is the one that the premise
+      -- of `front-result` leaves out
       same_result (xor_each s (take end buffer)) (xor_each s buffer) is_head head_of_front
       (elim some [ inl none ↦ inl (length-map buffer (λ b. bit_xor b s) ∙ none.1) | inr some ↦ inr (λ none. some (sym len ∙ none)) ])
 

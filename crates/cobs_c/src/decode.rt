@@ -51,7 +51,7 @@ fn first_piece_end(source: &[u8]) -> Option<usize>
     Some(if end < source.len() { end + 1 } else { end })
 }
 
-/// Returns the status and the length of the result for a source whose decoding failed with `error`. The message's
+/// Returns the status and the `length` of the result, for a source whose decoding failed with `error`. The message's
 /// buffer has `room` bytes. The number of consumed bytes is stored in `consumed`. The function returns two numbers
 /// instead of an `Answer`, because two numbers stay in registers.
 #[inline(never)]
@@ -90,7 +90,7 @@ fn decode_long(source: &[u8], message: &mut [u8], consumed: &mut usize) -> (u32,
     }
 }
 
-/// Decodes the first frame of the source to the front of `message`.
+/// Decodes the first frame of the source, and writes the message to the front of `message`.
 #[unsafe(no_mangle)]
 pub extern "C" fn jcobs_decode(source: &[u8], message: &mut [u8]) -> Answer
     ensures decodes { Decodes source.now message.old result message.new }
@@ -98,7 +98,8 @@ pub extern "C" fn jcobs_decode(source: &[u8], message: &mut [u8]) -> Answer
     law_1(); // A frame reads as its output
     law_12(); // The first and the last piece of a stream
     let room = message.len();
-    // The source of a short frame consists of the frame and perhaps a zero, so all its bytes are consumed.
+    // If `decode_short` decodes the source, the source consists of one frame and perhaps a zero, so all its bytes are
+    // consumed.
     match decode_short(source, message) {
         Some(Ok(report)) => return done(source.len(), report.frame_size()),
         Some(Err(error)) => return result_by(source.len(), room, Err(error)),
@@ -113,7 +114,8 @@ pub extern "C" fn jcobs_decode(source: &[u8], message: &mut [u8]) -> Answer
     }
 }
 
-/// Decodes the bytes before the source's first `sentinel`, as a frame for that sentinel, to the front of `message`.
+/// Decodes a frame that was encoded with this sentinel, and writes the message to the front of `message`. The frame
+/// consists of the source's bytes before the first sentinel.
 #[unsafe(no_mangle)]
 pub extern "C" fn jcobs_decode_with_sentinel(
     source: &[u8],
@@ -139,9 +141,10 @@ fn with_zero(end: usize, len: usize) -> usize
     if end < len { end + 1 } else { len }
 }
 
-/// Decodes, in place, the frame at the front of a buffer that [`decode_short_in_place`] doesn't decode. Returns the
-/// status and the length of the result, and stores the number of consumed bytes in `consumed`. This code is a separate
-/// function for the same reason as [`decode_long`].
+/// Decodes, in place, the frame at the front of the buffer. [`jcobs_decode_in_place`] calls this function if
+/// [`decode_short_in_place`] returned `None` for the buffer. Returns the status and the length of the result, and
+/// stores the number of consumed bytes in `consumed`. This code is a separate function for the same reason as
+/// [`decode_long`].
 #[cold]
 #[inline(never)]
 fn decode_long_in_place(buffer: &mut [u8], consumed: &mut usize) -> (u32, usize)
@@ -157,7 +160,7 @@ fn decode_long_in_place(buffer: &mut [u8], consumed: &mut usize) -> (u32, usize)
             result_by(consumed, room, Ok(report.frame_size()))
         }
         Err(DecodeError::InvalidFrame { decoded_bytes }) => {
-            // The first `decoded_bytes` bytes of the buffer are output, and the bytes after them are as they were. The
+            // The first `decoded_bytes` bytes of the buffer are output, and the bytes after them haven't changed. The
             // output is shorter than the frame, so the search for the frame's end can begin after the output.
             let end = decoded_bytes + first_sentinel(&buffer[decoded_bytes..], 0);
             let error = DecodeError::InvalidFrame { decoded_bytes };
@@ -174,7 +177,8 @@ fn decode_long_in_place(buffer: &mut [u8], consumed: &mut usize) -> (u32, usize)
 pub extern "C" fn jcobs_decode_in_place(buffer: &mut [u8]) -> Answer
     ensures decodes { DecodesInPlace buffer.old result buffer.new }
 {
-    // A whole frame of 2 to 65 bytes, with nothing after its zero, is decoded without a search for its end.
+    // If the buffer is a whole frame of 2 to 65 bytes, with or without one zero after it, the frame is decoded without
+    // a search for its end.
     if let Some(report) = decode_short_in_place(buffer) {
         let consumed = with_zero(report.parsed_size(), buffer.len());
         return done(consumed, report.frame_size());
@@ -188,7 +192,8 @@ pub extern "C" fn jcobs_decode_in_place(buffer: &mut [u8]) -> Answer
     }
 }
 
-/// Decodes the bytes before the buffer's first `sentinel`, as a frame for that sentinel, in place.
+/// Decodes, in place, a frame that was encoded with this sentinel. The frame consists of the buffer's bytes before the
+/// first sentinel.
 #[unsafe(no_mangle)]
 pub extern "C" fn jcobs_decode_in_place_with_sentinel(buffer: &mut [u8], sentinel: u8) -> Answer
     ensures decodes { DecodesInPlaceFor sentinel buffer.old result buffer.new }
@@ -210,7 +215,7 @@ pub extern "C" fn jcobs_decode_in_place_with_sentinel(buffer: &mut [u8], sentine
     )
 }
 
-/// Returns the kind of the bytes: a frame that encoders write, another frame, or no frame.
+/// Returns whether the bytes are a frame that encoders write, another frame, or no frame.
 #[unsafe(no_mangle)]
 pub extern "C" fn jcobs_frame_kind(bytes: &[u8]) -> u32
     ensures kind { IsKindOf bytes.now result }

@@ -42,7 +42,7 @@ pub extern "C" fn jcobs_decoder_push(
     result_of(decoder, found, bytes.len(), buffer.len())
 }
 
-/// Decodes the next byte of the stream. The contract is the same as for a `jcobs_decoder_push` of this byte.
+/// Decodes the next byte of the stream. The contract is the same as for a call of `jcobs_decoder_push` with this byte.
 #[unsafe(no_mangle)]
 pub extern "C" fn jcobs_decoder_feed(
     decoder: &mut UnbufferedDecoder,
@@ -55,8 +55,8 @@ pub extern "C" fn jcobs_decoder_feed(
     decode_byte(decoder, buffer, byte)
 }
 
-/// Decodes bytes of a stream of frames for this sentinel, and stops after the sentinel that ends the first piece. If no
-/// piece ends, decodes all the bytes.
+/// Decodes bytes of a stream whose frames were encoded with this sentinel, and stops after the sentinel that ends the
+/// first piece. If no piece ends, decodes all the bytes.
 #[unsafe(no_mangle)]
 pub extern "C" fn jcobs_decoder_push_with_sentinel(
     decoder: &mut UnbufferedDecoder,

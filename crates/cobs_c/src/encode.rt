@@ -7,15 +7,15 @@ use cobs::laws::law_4;
 use cobs::{encode, max_encoding_overhead, try_encode, try_encode_with_sentinel};
 use cobs_abi::{Answer, OK, TOO_SMALL, done, encode_within, too_small};
 
-/// The code of a full block. If a message has fewer bytes than this number, its frame is one byte longer than the
-/// message.
+/// The code of a full block. If a message has fewer bytes than this number, its encoded frame is one byte longer than
+/// the message.
 const FULL_CODE: usize = 255;
 
 /// A message of fewer bytes than this number is encoded byte by byte.
 const FEW: usize = 8;
 
-/// Returns the length of the longest frame of a message of `message_len` bytes, or 0 if this length doesn't fit the
-/// type of the result.
+/// Returns the length of the longest encoded frame of a message of `message_len` bytes, or 0 if this length doesn't fit
+/// the type of the result.
 #[unsafe(no_mangle)]
 pub extern "C" fn jcobs_max_length(message_len: usize) -> usize
     ensures fits { max_encoded_len message_len < 2 ^ 64 → result ≡ max_encoded_len message_len }
@@ -41,8 +41,8 @@ fn encode_long(message: &[u8], frame: &mut [u8]) -> (usize, usize)
     }
 }
 
-/// Writes the frame of the message to the front of the buffer `frame`, if the message's frame fits. Otherwise nothing
-/// is written.
+/// Encodes the message, and writes its frame to the front of the buffer `frame`, if it fits. Otherwise nothing is
+/// written.
 #[unsafe(no_mangle)]
 #[inline(always)]
 pub extern "C" fn jcobs_encode(message: &[u8], frame: &mut [u8]) -> Answer
@@ -53,7 +53,7 @@ pub extern "C" fn jcobs_encode(message: &[u8], frame: &mut [u8]) -> Answer
     // The frame of a message of up to 254 bytes fits if `frame` is longer than the message. Such a message is encoded
     // here, without a call. A message of fewer than `FEW` bytes has its own branch, so that compilers generate code for
     // it without the cases of longer messages. The message's length is computed as `length - 1`, so that no register
-    // has to keep it. All this makes the encoding of short messages faster.
+    // has to keep the length. All this makes encoding a short message faster.
     if len < frame.len() {
         if len < FEW {
             let length = encode(message, frame);
@@ -73,7 +73,7 @@ pub extern "C" fn jcobs_encode(message: &[u8], frame: &mut [u8]) -> Answer
     }
 }
 
-/// Writes the frame of the message for this sentinel to the front of the buffer `frame`, if the message's frame fits.
+/// Encodes the message with this sentinel, and writes the frame to the front of the buffer `frame`, if it fits.
 /// Otherwise nothing is written.
 #[unsafe(no_mangle)]
 pub extern "C" fn jcobs_encode_with_sentinel(
@@ -108,8 +108,8 @@ pub extern "C" fn jcobs_encode_terminated(message: &[u8], frame: &mut [u8]) -> A
     done(returned.consumed, returned.length + 1)
 }
 
-/// Writes the frame of the message for this sentinel, followed by the sentinel, to the front of the buffer `frame`, if
-/// the frame and the sentinel fit. Otherwise nothing is written.
+/// Encodes the message with this sentinel, and writes the frame, followed by the sentinel, to the front of the buffer
+/// `frame`, if the frame and the sentinel fit. Otherwise nothing is written.
 #[unsafe(no_mangle)]
 pub extern "C" fn jcobs_encode_terminated_with_sentinel(
     message: &[u8],
@@ -132,8 +132,8 @@ pub extern "C" fn jcobs_encode_terminated_with_sentinel(
 }
 
 /// Encodes a message of `message_len` bytes in place. The message begins at index JCOBS_MAX_OVERHEAD(message_len) of
-/// the buffer. The frame is written to the front of the buffer. If the longest frame of a message of this length
-/// doesn't fit the buffer, nothing is written.
+/// the buffer. The frame is written to the front of the buffer. If the longest encoded frame of a message of this
+/// length doesn't fit the buffer, nothing is written.
 #[unsafe(no_mangle)]
 pub extern "C" fn jcobs_encode_in_place(buffer: &mut [u8], message_len: usize) -> Answer
     ensures encodes { EncodesInPlace message_len buffer.old result buffer.new }

@@ -29,7 +29,7 @@ pub extern "C" fn jcobs_encoder_push(
         encoder.new buffer.new }
 {
     law_13(); // The open frame of a streaming encoder
-    // Up to 8 bytes that can't fill the open block are encoded here, without a call.
+    // If there are 1 to 8 bytes, and they can't fill the open block, they are encoded here, without a call.
     if encoder.push_few(buffer, bytes) {
         return done(bytes.len(), end_of(encoder));
     }
@@ -51,7 +51,7 @@ pub extern "C" fn jcobs_encoder_finish(encoder: &mut UnbufferedEncoder, buffer: 
     Answer { ..returned }
 }
 
-/// Encodes the next byte of a message. The contract is the same as for a `jcobs_encoder_push` of this byte.
+/// Encodes the next byte of a message. The contract is the same as for a call of `jcobs_encoder_push` with this byte.
 #[unsafe(no_mangle)]
 pub extern "C" fn jcobs_encoder_feed(
     encoder: &mut UnbufferedEncoder,
@@ -68,7 +68,7 @@ pub extern "C" fn jcobs_encoder_feed(
     encode_byte(encoder, buffer, byte)
 }
 
-/// Ends the message, as `jcobs_encoder_finish` does, but writes a frame for this sentinel.
+/// Ends the message, as `jcobs_encoder_finish` does, but the frame is encoded with this sentinel.
 #[unsafe(no_mangle)]
 pub extern "C" fn jcobs_encoder_finish_with_sentinel(
     encoder: &mut UnbufferedEncoder,
@@ -122,6 +122,6 @@ pub extern "C" fn jcobs_encoder_finish_terminated(
         encoder.new buffer.new }
 {
     let returned = finish_terminated(encoder, buffer);
-    // Copied field by field, as in `jcobs_encoder_finish`.
+    // The result is copied field by field, as in `jcobs_encoder_finish`.
     Answer { ..returned }
 }

@@ -4,11 +4,11 @@ use crate::fault::CaseFault;
 use crate::{decoding, encoding, machines, streams};
 use std::alloc::Global;
 
-/// Calls the function of the library that `call` names, and returns the call's result.
+/// Runs what `call` names, a function or a coder of the library, and returns the result.
 ///
 /// # Errors
-/// `Malformed` if `call` names no function, or if the arguments aren't arguments of that function. `NotCallable` if the
-/// arguments break the function's precondition. `OutOfMemory` if memory ran out.
+/// `Malformed` if `call` is none of the names in this function, or if the arguments aren't arguments of that call.
+/// `NotCallable` if the arguments break a precondition. `OutOfMemory` if memory ran out.
 pub fn result_of_call(
     alloc: Global,
     call: &str,

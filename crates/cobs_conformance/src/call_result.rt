@@ -126,8 +126,8 @@ impl CallResult {
         }
     }
 
-    /// Adds two words to the result of a case: `ok` and the message's length. For an error, adds the error's name and the
-    /// number of decoded bytes that the error reports.
+    /// Adds two words to the result of a case: `ok` and the message's length. For an error, adds the error's name and
+    /// the number of decoded bytes that the error reports.
     pub fn say_decoded(&mut self, decoded: &Result<usize, DecodeError>) -> Result<(), AllocError> {
         match decoded {
             Ok(len) => {

@@ -17,8 +17,8 @@ pub enum Verdict {
     /// The result is the expected one.
     Agrees,
 
-    /// The call has another result than the expected one, or no result. The text says how the results differ, or why
-    /// there is no result.
+    /// The call has another result than the expected one, or no result, or the line isn't a case. The text says how the
+    /// results differ, or why there is no result.
     Differs(String),
 }
 

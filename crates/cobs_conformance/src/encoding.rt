@@ -7,8 +7,8 @@ use crate::fault::CaseFault;
 use cobs::CobsEncoder;
 use std::alloc::Global;
 
-/// Runs `max_encoding_overhead`, which returns the greatest difference between the length of a frame and the length of
-/// its message.
+/// Runs `max_encoding_overhead`, which returns the greatest overhead that the encoded frame of a message of a given
+/// length can have.
 pub fn max_encoding_overhead(alloc: Global, arguments: &[&str]) -> Result<CallResult, CaseFault> {
     let [length] = arguments else {
         return Err(CaseFault::Malformed);
@@ -18,13 +18,13 @@ pub fn max_encoding_overhead(alloc: Global, arguments: &[&str]) -> Result<CallRe
     Ok(returned)
 }
 
-/// Runs `max_encoding_length`, which returns the length of the longest frame of a message of a given length.
+/// Runs `max_encoding_length`, which returns the length of the longest encoded frame of a message of a given length.
 pub fn max_encoding_length(alloc: Global, arguments: &[&str]) -> Result<CallResult, CaseFault> {
     let [length] = arguments else {
         return Err(CaseFault::Malformed);
     };
     let length = number_of(length)?;
-    // Up to this length, the greatest length of a frame fits a `usize`.
+    // Up to this length of a message, the greatest length of its encoded frame fits a `usize`.
     if length > usize::MAX / 2 {
         return Err(CaseFault::NotCallable);
     }

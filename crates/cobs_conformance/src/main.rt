@@ -2,9 +2,11 @@
 //!
 //! `cobs_conformance` reads cases from standard input, one per line, in the format of conformance/README.md. It makes
 //! the call of each case. The case has the expected result and the expected bytes of the buffer after the call, and the
-//! program compares them with the actual ones. For each case that differs it prints a line: the name of the case, the
-//! expected result and the actual result. The last line is `N cases, M differ`. The exit status is 0 if M is 0, and
-//! otherwise 1. It is 2 if the input can't be read to its end, if the output can't be written, or if memory runs out.
+//! program compares them with the actual ones. For each case that differs it prints a line: the name of the case, and
+//! either the expected and the actual result, or the reason why there is no actual result. A line that isn't in the
+//! format counts as a case that differs, and the whole line is printed. The last line of the output is
+//! `N cases, M differ`. The exit status is 0 if M is 0, and otherwise 1. It is 2 if the input can't be read to its end,
+//! if the output can't be written, or if memory runs out.
 #![tactic(auto)]
 
 mod agree;

@@ -10,7 +10,7 @@ enum Reading {
     /// The read fails.
     Fails,
 
-    /// The read returns the first of these bytes, as many as fit the caller's chunk.
+    /// The read returns the first of these bytes, as many as fit the caller's chunk. No read returns the others.
     Gives(Vec<u8>),
 }
 

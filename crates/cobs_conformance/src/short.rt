@@ -1,5 +1,5 @@
-//! Expands abbreviated words. A `+` separates the parts of a word. Each part is digits, or digits followed by `*` and a
-//! number of repetitions: `00*3+ff` stands for `000000ff`.
+//! Expands abbreviated words. A `+` separates the parts of a word. Each part is a text, usually digits, or a text
+//! followed by `*` and a number of repetitions: `00*3+ff` stands for `000000ff`.
 ghost use Rattle.std.specs.Prelude.{◌≡◌, ◌==◌, ◌<◌, ◌≤◌, IfOk, length, map, string_bytes};
 ghost use Rattle.std.specs.List.{slice_split};
 ghost use Rattle.cobs_conformance.specs.Short.{repeated, word_text};
@@ -23,11 +23,11 @@ pub fn words_of(alloc: Global, line: &str) -> Result<Vec<String>, CaseFault>
     Ok(words)
 }
 
-/// Expands a word: expands each part, and joins the digits of all parts.
+/// Expands a word: expands each part, and joins the expanded parts.
 ///
 /// # Errors
-/// `Malformed` if a part has two `*`, if a part has no number after its `*`, or if the expanded word has more than
-/// [`MAX_DIGITS`] digits. `OutOfMemory` if memory ran out.
+/// `Malformed` if a part has two `*`, if a part has no number after its `*`, or if the expanded word is longer than
+/// [`MAX_DIGITS`] bytes. `OutOfMemory` if memory ran out.
 fn written_out(alloc: Global, word: &str) -> Result<String, CaseFault>
     ensures text { IfOk result (λ text. string_bytes text ≡ word_text word.now) }
     ensures limit { IfOk result (λ text. length (string_bytes text) ≤ MAX_DIGITS) }
@@ -52,8 +52,8 @@ fn split(alloc: Global, text: &str, separator: char) -> Result<Vec<&str>, AllocE
     text.split(separator).collect(alloc)
 }
 
-/// Expands a part of a word. `fields` has the part's digits, followed by the number of repetitions if the part has such
-/// a number.
+/// Expands a part of a word. `fields` has the part's text, followed by the number of repetitions if the part has such a
+/// number.
 fn repeated(alloc: Global, fields: &[&str]) -> Result<String, CaseFault>
     ensures text { IfOk result (λ text. string_bytes text
         ≡ repeated (map (λ field. field.now) fields.now)) }

@@ -25,8 +25,8 @@ enum Feeding {
     Pieces,
 }
 
-/// The methods of streaming decoders that the cases need and that `FrameDecoder` doesn't have. They have no contracts, so
-/// the functions below take slices with `get` and `unwrap_or`, although each range is within its slice.
+/// The methods of streaming decoders that the cases need and that `FrameDecoder` doesn't have. They have no contracts,
+/// so the functions below take slices with `get` and `unwrap_or`, although each range is within its slice.
 trait Streaming: FrameDecoder {
     /// Pushes bytes, and stops at the first message or error. Returns `None` if there is no message and no error.
     fn push_bytes(&mut self, bytes: &[u8]) -> Result<Option<DecodeReport>, PushError>;
@@ -120,9 +120,9 @@ pub fn decoder(alloc: Global, arguments: &[&str]) -> Result<CallResult, CaseFaul
     returned.append_other(borrowed(alloc, &buffer, pieces, &Feeding::Bytes)?)?;
     returned.append_other(heapless(alloc, &buffer, pieces, &Feeding::Pushes)?)?;
     returned.append_other(heapless(alloc, &buffer, pieces, &Feeding::Bytes)?)?;
-    // `push` and single bytes have a result for each byte that doesn't fit the buffer, and for the zero that ends a
-    // piece. `feed_piece` has a result only for this zero. So the results of `feed_piece` are compared with the results
-    // of single bytes for zeros (`ends`).
+    // `push` and single bytes have a result for the zero that ends a piece and, from the first byte that doesn't fit
+    // the buffer on, for each byte of the piece. `feed_piece` has a result only for this zero. So the results of
+    // `feed_piece` are compared with the results of single bytes for zeros (`ends`).
     let ends = owned(alloc, &buffer, pieces, &Feeding::Zeros)?;
     returned.append_unlike(&ends, owned(alloc, &buffer, pieces, &Feeding::Pieces)?)?;
     returned.append_unlike(&ends, borrowed(alloc, &buffer, pieces, &Feeding::Pieces)?)?;

@@ -1,4 +1,4 @@
-//! Tests that run the functions of `cobs_vectors::worked_callers`.
+//! Tests that run the functions of `cobs_vectors::worked_callers`, and a test of `encode_frames`.
 use crate::messages::{encode_few, three_messages};
 use cobs::{CobsDecoder, DestBufTooSmallError, FrameOutcome, encode_frames_room};
 use cobs_vectors::bytes::ONES;

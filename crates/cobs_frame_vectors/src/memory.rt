@@ -1,10 +1,10 @@
 //! Tests of each call with too little memory.
 //!
-//! Each call that allocates has its own test, in which the call succeeds. `tests/fail-alloc.sh` runs changed copies of
-//! these tests. In each copy, one allocation of each test fails: in the first copy the first allocation, in the second
-//! copy the second, and so on. If the call made this allocation, it must return an error, and the test ends with the
-//! words `out of memory`. Otherwise the call must succeed. The script stops at the first copy in which no test ends
-//! with these words.
+//! Each call that allocates has its own test, in which memory doesn't run out. `tests/fail-alloc.sh` runs a changed
+//! copy of these tests in rounds. In each round, one allocation of each test fails: in the first round the first
+//! allocation, in the second round the second, and so on. If the call made this allocation, it must return an error
+//! that says so, and the test ends with the words `out of memory`. Otherwise the call must have its usual result. The
+//! script stops after the first round in which no test ends with these words.
 //!
 //! `rt` is the runtime: an assertion that fails aborts the test through it.
 use crate::messages::encode_few;
@@ -17,7 +17,7 @@ use cobs_vectors::bytes::repeated;
 use std::alloc::{AllocError, Global};
 use std::process::Abort;
 
-/// Whether one growth (allocation) of each test fails: false here, and true in the copies that `tests/fail-alloc.sh`
+/// Whether one growth (allocation) of each test fails: false here, and true in the copy that `tests/fail-alloc.sh`
 /// runs.
 const ONE_GROWTH_FAILS: bool = false;
 

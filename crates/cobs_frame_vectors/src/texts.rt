@@ -1,4 +1,4 @@
-//! Tests of the texts that are printed or written as JSON.
+//! Tests of the texts of errors and reports, as they are printed or written as JSON.
 use cobs::{DecodeError, DecodeReport, DecodeVecError, DestBufTooSmallError, PushError, decode};
 use std::alloc::AllocError;
 use std::test::Fail;

@@ -1,6 +1,6 @@
 -- Lemmas on bytes in memory as the source of a stream: a read returns the first 64 bytes that are left, or all of them
--- (`TakesChunk-read`), no read fails (`never_fails`), and after all reads the source's bytes are those that were
--- returned and those that are left (`bytes_left-Runs`).
+-- (`TakesChunk-read`), no read fails (`never_fails`), and the bytes that a source had before some reads are those that
+-- the reads returned and those that are left (`bytes_left-Runs`).
 use Rattle.std.proofs.Common.{◌≡◌, ◌+◌, ◌*◌, ◌-◌, ◌<◌, ℕ, List, [], ◌∷◌, ◌++◌, length, take, drop, min, inl, inr, Result, Ok, Err, Some, None, All, ap, sym, ◌∙◌, arith, append_assoc, take-append-drop, length-take, length-drop, take_all}
 use Rattle.std.proofs.Math.Seq.{take-append_seam}
 use Rattle.std.proofs.lemmas.Bool.{cases_lt}

@@ -1,5 +1,5 @@
 //! Code that the programs `cobs_tool` and `cobs_watch` share. It writes the lines that they print for the pieces of a
-//! stream, and it has a source whose bytes are in memory.
+//! stream, and provides a source whose bytes are in memory.
 #![tactic(auto)]
 
 mod lines;

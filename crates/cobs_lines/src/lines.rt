@@ -95,7 +95,7 @@ fn compute_digits(room: &mut [u8], bytes: &[u8])
 }
 
 /// Returns the lower-case hexadecimal digit of a number below 16. The digit is computed, not looked up, so that
-/// compilers can compute the digits of many bytes in vectors.
+/// compilers can compute the digits of many bytes with vector instructions.
 #[inline(always)]
 fn digit(number: u8) -> u8
     requires below { number < 16 }

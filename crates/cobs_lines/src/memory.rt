@@ -1,9 +1,9 @@
-//! A source of a stream, whose bytes are in memory.
+//! A source that reads a stream from memory.
 use cobs::FrameSource;
 use std::io::Read;
 
-/// The bytes of a stream in memory. A read returns the next 64 bytes, or all remaining bytes if there are fewer. A read
-/// never fails.
+/// The bytes of a stream that is in memory. A read returns the next 64 bytes, or all remaining bytes if there are fewer
+/// than 64. A read never fails.
 #[derive(Drop)]
 pub struct InMemory<'a> {
     /// The bytes that haven't been read yet.

@@ -14,7 +14,7 @@ pub upto-more : (f : ℕ → List ℕ) (n : ℕ) → upto f (n + 1) ≡ upto f n
 unfolding upto
 upto-more f n = rw add-one refl
 
--- the range that the function slices, from `start` up to sixteen bytes later or up to the end, is the first sixteen
+-- the range that `write_dump` slices, from `start` up to sixteen bytes later or up to the end, is the first sixteen
 -- bytes from `start` on, or all of them if there are fewer
 pub row_of : (bytes : List ℕ) (start end : ℕ) → end ≡ min (length bytes) (start + 16) → take (end - start) (drop start bytes) ≡ take 16 (drop start bytes)
 row_of bytes start end e = grind (arith, cases_lt, take_all, length-drop)

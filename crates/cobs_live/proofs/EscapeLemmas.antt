@@ -67,7 +67,7 @@ run_past text rest run more u b is all same = grind (arith, run_more, front_run,
 char_run : (text rest : List ℕ) (c : ℕ) → IsUtf8 text → text ≡ encode_utf8 c ++ rest → escaped c ≡ encode_utf8 c → text_escaped text ≡ take (len_utf8 c) text ++ text_escaped (drop (len_utf8 c) text)
 char_run text rest c u split same = grind (arith, drop_at, length-encode, take-append_seam, char_escaped)
 
--- if a run ends between two characters, the run and the n bytes of the character c after it end between two characters
+-- if a run ends at a character boundary, the run and the n bytes of the character c after it also end at one
 pub past_char : (text rest : List ℕ) (run c n : ℕ) → IsUtf8 text → IsCharBoundary text run → drop run text ≡ encode_utf8 c ++ rest → n ≡ len_utf8 c → IsCharBoundary text (run + n)
 past_char text rest run c n u b split is = subst (λ (k : ℕ). IsCharBoundary text (run + k)) (sym is) (IsCharBoundary-past_char text rest run c b.0 (IsUtf8-drop text run u b) split)
 

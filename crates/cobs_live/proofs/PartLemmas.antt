@@ -1,6 +1,6 @@
 -- Lemmas on the pieces that have ended in a stream (`all_ended`), and on the bytes of the last piece in the decoder's
--- buffer. The main lemma, `IsLastPiece-taken`, says which piece `feed_piece` has ended, and how it is shown;
--- `one_ended` finds this piece, and `seen-held` finds its bytes in the buffer.
+-- buffer. The main lemma, `IsLastPiece-taken`, is about the piece whose end `feed_piece` has reported: it says which
+-- piece this is, and how it is shown. `one_ended` finds this piece, and `seen-held` finds its bytes in the buffer.
 use Rattle.std.proofs.Common.{◌≡◌, ◌≤◌, ◌<◌, nat_le, ℕ, Bool, true, false, List, [], ◌∷◌, ◌++◌, length, take, map, min, refl, sym, ap, ◌∙◌, arith, append_assoc, append-nil, length-append, length-take, Option, Some, None}
 use Rattle.std.proofs.Math.ListN.{drop_of_length-le}
 use Rattle.std.proofs.Math.Seq.{take-append_seam}
@@ -58,13 +58,13 @@ one_ended law t n outcome none reported =
 
 -- THE BYTES OF THAT PIECE IN THE BUFFER
 
--- if the outcome of a piece q is a broken piece with `count` bytes, `count` is the length of the output of q, and the
+-- if the outcome of a piece q is `Broken` with the number `count`, `count` is the length of the output of q, and the
 -- output fits the buffer
 broken-fits : (q : List ℕ) (n count : ℕ) → OfBroken count ≡ outcome_of q n → (count ≡ length (output q)) × (length (output q) ≤ n)
 unfolding outcome_of
 broken-fits q n count e = grind (arith, cases_Bool, leb-true)
 
--- if the outcome of a piece q is too long, the output of q is longer than the buffer
+-- if the outcome of a piece q is `TooLong`, the output of q is longer than the buffer
 too_long-exceeds : (q : List ℕ) (n : ℕ) → OfTooLong ≡ outcome_of q n → n < length (output q)
 unfolding outcome_of
 too_long-exceeds q n e = grind (arith, nat_le, leb-false, cases_Bool)

@@ -1,6 +1,6 @@
--- Lemmas on the reads of a run, each of which has the output as an argument. A run that is live (`IsLive`) is still
--- live after one more read (`live-push`) or after several more reads (`live-more`). `once-none` and `once-more` are
--- about reads that are repeated until one of them has a result (`ReadsOnce`).
+-- Lemmas on the reads of a run. A `Read` also records the output at the time of the read. A run that is live (`IsLive`)
+-- is still live after one more read (`live-push`) or after several more reads (`live-more`). `once-none` and
+-- `once-more` are about reads that are repeated until one of them has a result (`ReadsOnce`).
 use Rattle.std.proofs.Common.{◌≡◌, ℕ, List, [], ◌∷◌, ◌++◌, refl, sym, ap, ◌∙◌, subst, append-nil, append_assoc, Option}
 use Rattle.std.proofs.lemmas.List.{map-append}
 use Rattle.cobs_live.specs.Reads.{HeldWhileNothing, Read, IsLive, IsLiveAfter, ReadsOnce, Runs, came, joined}

@@ -1,7 +1,7 @@
 -- Lemmas on a run of `show`. After each read the facts of `HasShownSoFar` still hold, and the run is still live
--- (`live-next`, `given-next`). The lemmas `more-..` are about a read that returned bytes, and `hung-up` is about a
--- hang-up; they are the parts of `HasShownSoFar` after the read. At the end of the input and after each fault, the text
--- is the one that `HasShown` describes (`shown-..`).
+-- (`live-next`, `given-next`). The lemmas `more-..` show the parts of `HasShownSoFar` after a read that returned bytes,
+-- and `hung-up` shows `HasShownSoFar` after a hang-up. At the end of the input and after each fault, the text is the
+-- one that `HasShown` describes (`shown-..`, `unfinished-fault`).
 -- `law_9`: A stream may be cut anywhere.
 use Rattle.std.proofs.Common.{◌≡◌, ◌≢◌, ◌≤◌, ◌+◌, ◌↔◌, ℕ, Bool, true, false, List, [], ◌∷◌, ◌++◌, length, map, take, drop, refl, sym, ap, ◌∙◌, subst, arith, append-nil, append_assoc, length-append, Option, Some, None, Result, Ok, Err}
 use Rattle.std.specs.Prelude.{IfSome, IsErrAnd}
@@ -169,11 +169,11 @@ module _ (law : StreamLaw) {settings : Settings} {from to before after : Option 
   pub more-stream : (more : List ℕ) → open_stream settings s.ended.gone (s.ended.bytes ++ more) ≡ opened ++ newly more
   more-stream more = grind (arith, map-append, begun-append)
 
-  -- whether bytes are still skipped after `more` bytes
+  -- whether bytes are still skipped after `more` bytes: the watch and `more` say the same as all bytes of the open line
   pub more-skips : (more : List ℕ) → skips_on watch.skipping (xor_each watch.settings.now.sentinel more) ≡ skips_on skip (xor_each settings.sentinel (s.ended.bytes ++ more))
   more-skips more = grind (arith, map-append, skips_on-append)
 
-  -- the unended bytes of the open line with `more` bytes, which the decoder has taken
+  -- the unended bytes of the open line with `more` bytes are those of the unended bytes so far and the new bytes
   pub more-left : (more : List ℕ) → unended (open_stream settings s.ended.gone (s.ended.bytes ++ more)) ≡ unended (unended opened ++ newly more)
   more-left more = ap unended (more-stream more) ∙ law.left opened (newly more)
 
@@ -250,8 +250,8 @@ module _ (law : StreamLaw) {settings : Settings} {from to before after : Option 
         (Appends-trans before after after' _ _ s.ended.written (subst (λ (w : Settings). Appends after after' (new_text w.view now more)) s.same written));
   }
 
-  -- if no byte follows, and the text that `ShowsEnd` describes was written, the text of the ended input has been
-  -- written; it says whether a piece has begun
+  -- if no byte follows, and the text that `ShowsEnd` describes was written, the text of the ended input (`shown_ended`)
+  -- has been written
   pub shown-ended : {to' after' : Option (List ℕ)} → Consumes to to' [] → ShowsEnd (phase_of watch.decoder) watch.settings.now.view after after' → HasWritten (shown_ended settings) from to' before after'
   shown-ended {to' = to'} {after' = after'} r end =
       -- a piece has begun exactly if the open line has unended bytes
@@ -293,7 +293,7 @@ module _ (law : StreamLaw) {settings : Settings} {from to before after : Option 
   no_outcomes : (b : Bool) → stream_outcomes (stream_of settings b []) settings.length ≡ []
   no_outcomes b = ap (λ (t : List ℕ). stream_outcomes t settings.length) (not_begun b) ∙ law.none [] settings.length (All-nil (λ (b : ℕ). b ≢ 0))
 
-  -- with the open line, the streams of the lines that hung up are one more: the stream of this line
+  -- if the open line hangs up, the lines that hung up have one stream more: the stream of this line
   gone-streams : gone_streams settings (s.ended.gone ++ s.ended.bytes ∷ []) ≡ streams ++ opened ∷ []
   gone-streams = grind (arith, streams_of-gone)
 

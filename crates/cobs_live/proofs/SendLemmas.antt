@@ -27,8 +27,8 @@ zip_push R [] (b ∷ ys) x y z r = absurd z
 zip_push R (a ∷ xs) [] x y z r = absurd z
 zip_push R (a ∷ xs) (b ∷ ys) x y z r = (z.0, zip_push R xs ys x y z.1 r)
 
--- the lines of bytes that aren't empty are their first line, which ends with the first newline (10), and then the lines
--- of the other bytes
+-- the lines of bytes that aren't empty are their first line, which ends with the first newline (10) or with the last
+-- byte, and then the lines of the other bytes
 lines_of-first : (bytes : List ℕ) → bytes ≢ [] → lines_of bytes ≡ take_through 10 bytes ∷ lines_of (drop_through 10 bytes)
 unfolding lines_of
 lines_of-first [] some = absurd (some refl)
@@ -51,7 +51,8 @@ pub start-AreFirst : (from : Option (List ℕ)) → AreFirst from from []
 start-AreFirst None = tt
 start-AreFirst (Some xs) = refl
 
--- if one more line was read, up to and including the first newline, the lines with this line are the first lines
+-- if one more line was read, up to and including the first newline or up to the end, the lines with this line are the
+-- first lines
 pub more-AreFirst : (from to to' : Option (List ℕ)) (lines : List (List ℕ)) (read line : List ℕ) → Consumes from to read → AreFirst from to lines → line ≢ []
     → IfSome to (λ ys. line ≡ take_through 10 ys) → DropsThrough to to' 10 → AreFirst from to' (lines ++ line ∷ [])
 more-AreFirst None to to' lines read line r first some through left = tt
@@ -124,7 +125,7 @@ module _ {settings : Settings} {all_sent : Bool} {from to to' before after after
   abbrev SentSoFar-with : (flag : Bool) → (IsTrue flag ↔ All (λ l. IsSendable settings (text_of l)) (s.lines ++ line ∷ [])) → SentSoFar settings flag from to' before after'
   SentSoFar-with flag all = record {
     lines = s.lines ++ line ∷ [];
-    -- the lines with this line are the first lines of the reader, and each ends at its first newline
+    -- the lines with this line are the first lines of the reader, and none has a newline before its last byte
     first = more-AreFirst from to to' s.lines (concat s.lines) line s.read s.first some through left;
     each_stops = All-push (λ (l : List ℕ). StopsAt l 10) s.lines line s.each_stops stops;
     sent = s.sent ++ bytes ∷ [];

@@ -27,19 +27,19 @@ unfolding shown_from
 shown_from-append view times index [] ys = grind arith
 shown_from-append view times index (x ∷ xs) ys = grind (arith, append_assoc, (shown_from-append view times (index + 1) xs ys))
 
--- the text of no pieces
+-- the text of no pieces is empty
 pub shown_from-none : (view : View) (times : ℕ → Moment) (index : ℕ) → shown_from view times index [] ≡ []
 unfolding shown_from
 shown_from-none view times index = refl
 
--- the text of one piece
+-- the text of a list of one piece is the text of this piece
 pub shown_from-one : (view : View) (times : ℕ → Moment) (index : ℕ) (piece : Ended) → shown_from view times index (piece ∷ []) ≡ shown view times index piece
 unfolding shown_from
 shown_from-one view times index piece = grind (arith, append-nil)
 
 -- Suppose that the text of a piece was written with two arguments of `in_view`: the number is the number of pieces in a
--- tally that counts this piece too, and the times are those of a clock that has counted only the pieces before it. Then
--- the text that `shown` states for the piece was written.
+-- tally that counts this piece too, and the times are those of a clock whose last piece is the one before this piece.
+-- Then the text that `shown` states for the piece was written.
 pub shown_now : (view : View) (times : ℕ → Moment) {tally : Tally} {clock : Times} (gone : List Outcome) (outcome : Outcome) {read : ℕ} (before after : Option (List ℕ)) {seen : Seen} (piece : Ended) → seen ≡ seen_piece view.checksum view.partial piece
     → IsTallyOf view.checksum tally (gone ++ outcome ∷ []) read → IsReadAt times (length gone) clock
     → Appends before after (in_view view tally.pieces clock seen) → Appends before after (shown view times (length gone) piece)
@@ -64,7 +64,7 @@ pub ShowsBytes-through : {view : View} {times : ℕ → Moment} {n : ℕ} {p byt
     → ShowsBytes view times n p bytes gone read buffer phase before (append_known a t) tally clock → Appends a b t → ShowsBytes view times n p bytes gone read buffer phase before b tally clock
 ShowsBytes-through {before = before} a b t s q = grind (arith, append_through)
 
--- before the first byte, no piece of these bytes is shown
+-- `ShowsBytes` holds before the first byte: no piece has ended that must be shown
 pub ShowsBytes-start : (law : StreamLaw) (view : View) (times : ℕ → Moment) (p buffer : List ℕ) (phase : Phase) (gone : List Outcome) (read : ℕ) (before : Option (List ℕ)) (tally : Tally) (clock : Times) → DecoderAfter buffer phase p
     → IsTallyOf view.checksum tally gone read → IsReadAt times (length gone) clock → ShowsBytes view times (length buffer) p [] gone read buffer phase before before tally clock
 ShowsBytes-start law view times p buffer phase gone read before tally clock d t r = grind (arith, append-nil, all_ended-none, shown_from-none, Appends-nil)
@@ -121,7 +121,7 @@ module _ (law : StreamLaw) {view : View} {times : ℕ → Moment} {n : ℕ} {p b
       → ShowsBytes view times n p (bytes ++ rest) gone read buffer' phase' before after tally clock
   ShowsBytes-rest len taken reported = grind (arith, outcomes-on, append-nil, pieces-on, all_ended-none, left-on)
 
--- the function takes `length bytes - at` bytes from index `at` on: these are all bytes from `at` on
+-- `length bytes - at` bytes from index `at` on are all bytes from `at` on
 rest-of : (at : ℕ) (bytes : List ℕ) → take (length bytes - at) (drop at bytes) ≡ drop at bytes
 rest-of at bytes = grind (arith, take_all, length-drop)
 

@@ -96,8 +96,8 @@ parted r b hb =
     ∙ ap (λ (x : ℕ). bit_xor high b * 2 ^ 24 + x) (xor_zero_r low) ∙ sym (xor_shifted (bit_xor high b) 24 low (omega arith))
     ∙ ap (λ (x : ℕ). bit_xor x low) (omega arith)
 
--- eight steps of a register to which the byte b was XORed: the XOR of the table's entry for the high byte and of the
--- register that is shifted by 8 bits
+-- eight steps of a register into whose high byte the byte b was XORed: the result is the XOR of the table's entry for
+-- the new high byte and of the old register, shifted by 8 bits
 pub table_step : (poly r b : ℕ) → poly < 2 ^ 32 → r < 2 ^ 32 → b < 2 ^ 8
     → bit_xor (after_bits poly 8 (2 ^ 24 * bit_xor (r / 2 ^ 24) b)) (r * 2 ^ 8 % 2 ^ 32) ≡ after_bits poly 8 (bit_xor r (2 ^ 24 * b))
 table_step poly r b hp hr hb =

@@ -1,5 +1,5 @@
--- Lemmas on the text of a tally, for `fmt`: `with_flag` is this text with its parts in the order in which they are
--- written.
+-- Lemmas on the text of a tally, for `fmt`: `with_flag` is this text for one value of the field `checked`, with the
+-- parentheses that the contract of `write!` has.
 use Rattle.std.proofs.Common.{◌≡◌, Bool, ℕ, List, [], ◌++◌, append_assoc, codes, ap, ◌∙◌}
 use Rattle.std.specs.Prelude.{if◌then◌else◌}
 use Rattle.std.specs.Fmt.{decimal}

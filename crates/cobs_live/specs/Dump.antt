@@ -17,7 +17,8 @@ offset_text offset = padded_integral (format_spec 32 0 4 8 (2 ^ 64 - 1)) false [
 abbrev pub cell : List ℕ → ℕ → List ℕ
 cell row i = if nat_lt i (length row) then encode_lower (slice_index row i ∷ []) ++ codes " " else codes "   "
 
--- a byte as an ASCII character, or a dot
+-- the character that is shown for a byte: the byte itself if it is a visible ASCII character or a space, otherwise a
+-- dot (46)
 abbrev pub character : ℕ → ℕ
 character byte = if nat_le 32 byte && nat_le byte 126 then byte else 46
 
@@ -25,7 +26,7 @@ character byte = if nat_le 32 byte && nat_le byte 126 then byte else 46
 abbrev pub dump_row : ℕ → List ℕ → List ℕ
 dump_row offset row = offset_text offset ++ codes "  " ++ upto (λ i. cell row (0 + i)) 8 ++ codes " " ++ upto (λ i. cell row (8 + i)) 8 ++ codes " |" ++ map character row ++ codes "|\n"
 
--- the row with this number, counted from 0
+-- the line of the row with this number, counted from 0
 abbrev pub numbered_row : List ℕ → ℕ → List ℕ
 numbered_row bytes number = dump_row (16 * number) (take 16 (drop (16 * number) bytes))
 

@@ -24,8 +24,8 @@ abbrev pub json_partial : List ℕ → List ℕ
 json_partial [] = []
 json_partial (byte ∷ bytes) = codes ",\"hex\":\"" ++ encode_lower (byte ∷ bytes) ++ codes "\""
 
--- the value of the member `kind`, and the members after it: the length of the piece, unless the piece is too long, and
--- the bytes of the piece
+-- the value of the member `kind`, and the members after it: the number of bytes that the piece decodes to, unless the
+-- piece is too long; the bytes that are shown; and the text of a message, even if its checksum is wrong
 abbrev pub json_kind : Kind → ℕ → List ℕ → List ℕ
 json_kind Message len bytes = codes "\"message\"" ++ json_message len bytes
 json_kind Broken len bytes = codes "\"broken\",\"length\":" ++ decimal len ++ json_partial bytes

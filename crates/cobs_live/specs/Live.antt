@@ -20,7 +20,7 @@ use Rattle.cobs_live.specs.declared.shown.View.{View}
 use Rattle.cobs_live.specs.declared.tally.Tally.{Tally}
 
 -- the state of a run between two reads: the text of each piece that ended in the bytes read so far has been written,
--- and the decoder has consumed all these bytes
+-- and the decoder has consumed all of these bytes that aren't skipped
 pub record HasShownSoFar (settings : Settings) (from to before after : Option (List ℕ)) (watch : Watch) : Type 0 where
   pub ended : HasWritten (shown_lines settings) from to before after
   pub taken : DecoderAfter watch.message.items (phase_of watch.decoder) (unended (open_stream settings ended.gone ended.bytes))
@@ -61,14 +61,13 @@ pub record ShowsBytes (view : View) (times : ℕ → Moment) (n : ℕ) (p bytes 
   pub timed : IsReadAt times (length (gone ++ stream_outcomes (p ++ bytes) n)) clock
   pub len : length buffer ≡ n
 
--- the input has ended; if a piece had begun, the text that says so is written
+-- the input has ended, and the text of `shown_end` is written; `begun` says whether a piece had begun
 pub record ShowsEnd (phase : Phase) (view : View) (before after : Option (List ℕ)) : Type 0 where
   pub begun : Bool
   pub idle : (begun ≡ false) ↔ (phase ≡ Idle)
   pub written : Appends before after (shown_end view begun)
 
--- a line hung up; if a piece had begun, the text that says so is written, and then the text that says that the line
--- hung up
+-- a line hung up, and the text of `shown_hang_up` is written; `begun` says whether a piece had begun
 pub record ShowsHangUp (phase : Phase) (view : View) (before after : Option (List ℕ)) : Type 0 where
   pub begun : Bool
   pub idle : (begun ≡ false) ↔ (phase ≡ Idle)

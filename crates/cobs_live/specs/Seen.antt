@@ -20,7 +20,8 @@ pub record Seen : Type 0 where
 abbrev pub seen_in : Sight → Seen
 seen_in sight = record { kind = sight.kind; len = sight.len; bytes = sight.bytes.now }
 
--- the text for the kind of a piece, and the number of bytes that the piece decodes to
+-- the text for the kind of a piece, followed by the number of bytes that the piece decodes to. A piece that is too long
+-- has no number.
 abbrev pub title : Kind → ℕ → List ℕ
 title Message len = codes "message " ++ decimal len
 title Broken len = codes "broken " ++ decimal len

@@ -34,8 +34,9 @@ is_digit byte = not ((byte == 32) || ((byte == 9) || (byte == 13)))
 abbrev pub digits_of : List ℕ → List ℕ
 digits_of text = filter is_digit text
 
--- the bytes that are written for the text of a line. Without `hex`, the text is the message. With `hex`, the text has
--- two hexadecimal digits for each byte of the message; if it doesn't, nothing is written.
+-- the bytes that are written for the text of a line. Without `hex`, the text is the message. With `hex`, the bytes of
+-- the text that count as digits are two hexadecimal digits for each byte of the message; if they aren't, nothing is
+-- written.
 abbrev pub SendsAs : (hex : Bool) → Settings → List ℕ → List ℕ → Type 0
 SendsAs false settings text bytes = SendsMessage settings text bytes
 SendsAs true settings text bytes = MatchResult (decode_of (digits_of text)) (λ message. SendsMessage settings message bytes) (λ error. bytes ≡ [])
@@ -44,7 +45,8 @@ SendsAs true settings text bytes = MatchResult (decode_of (digits_of text)) (λ 
 abbrev pub SendsText : Settings → List ℕ → List ℕ → Type 0
 SendsText settings text bytes = SendsAs settings.hex settings text bytes
 
--- the text of a line can be sent; with `hex`, the text must have two hexadecimal digits for each byte of a message
+-- the text of a line can be sent; with `hex`, the bytes of the text that count as digits must be two hexadecimal digits
+-- for each byte of a message
 abbrev pub IsSendable : Settings → List ℕ → Type 0
 IsSendable settings text = IsTrue settings.hex → IsOk (decode_of (digits_of text))
 
@@ -59,7 +61,8 @@ lines_of [] = []
 lines_of (byte ∷ bytes) = if byte == 10 then (byte ∷ []) ∷ lines_of bytes else in_front byte (lines_of bytes)
 
 -- The first lines of the reader, `lines`, were read, and `sent` has the bytes that were written for each line. `rest`
--- was read after these lines and not sent: a failed read cut `rest` off, or memory ran out for the frame of `rest`.
+-- was read after these lines and not sent: a failed read cut `rest` off, memory ran out for the frame of `rest`, or
+-- `rest` is empty.
 pub record HasSentLines (settings : Settings) (rest : List ℕ) (from to before after : Option (List ℕ)) : Type 0 where
   pub lines : List (List ℕ)
   pub first : IfSome from (λ bytes. (more : List (List ℕ)) × (lines_of bytes ≡ lines ++ more))

@@ -33,8 +33,8 @@ abbrev pub spaced : List ℕ → List ℕ
 spaced [] = []
 spaced (byte ∷ bytes) = codes " " ++ (byte ∷ bytes)
 
--- the line of a piece, with the bytes of the piece as digits (`hex_line`) or as text (`text_line`), or with the bytes
--- below the line, sixteen per line (`dump_lines`). With `color`, the kind has a colour.
+-- the line of a piece: its heading, and then its bytes as digits. With `color`, the title in the heading has the colour
+-- of the piece's kind.
 abbrev pub hex_line : (color : Bool) → Seen → List ℕ
 hex_line color seen = heading color seen ++ spaced_digits seen.bytes ++ codes "\n"
 
@@ -46,8 +46,8 @@ text_line color seen = heading color seen ++ (if is_plain seen.bytes then spaced
 abbrev pub dump_lines : (color : Bool) → Seen → List ℕ
 dump_lines color seen = heading color seen ++ codes "\n" ++ dump seen.bytes
 
--- the bytes that are written for a message in a style that shows only messages: the message (`Bytes`), the message and a
--- newline (`Raw`), or a record of a capture (`Pcap`). `styled` doesn't use the other rows.
+-- the bytes that are written for a message in a style that shows only messages: the message (`Bytes`), the message and
+-- a newline (`Raw`), or a record of a capture (`Pcap`). `styled` doesn't use the rows of the other styles.
 abbrev pub alone : Style → ℕ → List ℕ → List ℕ
 alone Hex time bytes = bytes
 alone Text time bytes = bytes
@@ -85,7 +85,7 @@ in_front Json stamp times = []
 in_front Bytes stamp times = []
 in_front Pcap stamp times = []
 
--- the number of a piece before its line
+-- the number of a piece and a space, before its line, or nothing if pieces are shown without numbers
 abbrev pub numbered : Bool → ℕ → List ℕ
 numbered true number = decimal number ++ codes " "
 numbered false number = []
@@ -114,7 +114,7 @@ unfoldable pub shown_from : View → (ℕ → Moment) → ℕ → List Ended →
 shown_from view times index [] = []
 shown_from view times index (piece ∷ pieces) = shown view times index piece ++ shown_from view times (index + 1) pieces
 
--- the text that says that a piece has begun, for each style
+-- the text that says that a piece has begun, by style; it is empty in the styles that show only messages
 abbrev pub unfinished_in : Style → List ℕ
 unfinished_in Hex = codes "unfinished\n"
 unfinished_in Text = codes "unfinished\n"
@@ -124,11 +124,12 @@ unfinished_in Json = codes "{\"kind\":\"unfinished\"}\n"
 unfinished_in Bytes = []
 unfinished_in Pcap = []
 
--- the text after a stream that has ended: if a piece has begun, the text says so; otherwise it is empty
+-- the text after a stream that has ended. If a piece has begun, and the filter lets unfinished pieces through, this is
+-- the text that says so in the style; otherwise it is empty.
 abbrev pub shown_end : View → Bool → List ℕ
 shown_end view begun = if begun && view.filter.unfinished then unfinished_in view.style else []
 
--- the text that says that a line hung up, for each style
+-- the text that says that a line hung up, by style; it is empty in the styles that show only messages
 abbrev pub hung_up_in : Style → List ℕ
 hung_up_in Hex = codes "hung up\n"
 hung_up_in Text = codes "hung up\n"
@@ -138,8 +139,8 @@ hung_up_in Json = codes "{\"kind\":\"hung-up\"}\n"
 hung_up_in Bytes = []
 hung_up_in Pcap = []
 
--- the text after the stream of a line that hung up. If a piece has begun, the text says so, because the hang-up doesn't
--- end the piece. Then the text says that the line hung up.
+-- the text after the stream of a line that hung up. It begins with the text of `shown_end`, because the hang-up doesn't
+-- end a piece that has begun. Then it says that the line hung up, if the filter lets unfinished pieces through.
 abbrev pub shown_hang_up : View → Bool → List ℕ
 shown_hang_up view begun = shown_end view begun ++ (if view.filter.unfinished then hung_up_in view.style else [])
 

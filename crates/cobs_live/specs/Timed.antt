@@ -29,7 +29,7 @@ padded width n = padded_integral (format_spec 32 0 4 width (2 ^ 64 - 1)) false [
 abbrev pub seconds : ℕ → List ℕ
 seconds time = decimal (time / 1000) ++ codes "." ++ padded 3 (time % 1000)
 
--- the offset of a time zone from UTC; the text for UTC itself is `Z`
+-- the offset of a time zone from UTC; the text for an offset of 0 seconds is `Z`
 abbrev pub zone_text : Offset → List ℕ
 zone_text offset = if int_eq offset.seconds (pos 0) then codes "Z" else offset_text offset
 
@@ -45,14 +45,15 @@ time_text Start times = seconds times.next.millis
 time_text Last times = seconds (times.next.millis - times.last.millis)
 time_text Date times = date_time times.next
 
--- the time before a line
+-- the text that begins a line: the time of the piece and a space, or nothing for `Untimed`
 abbrev pub stamped : Stamp → Times → List ℕ
 stamped Untimed times = []
 stamped Start times = time_text Start times ++ codes " "
 stamped Last times = time_text Last times ++ codes " "
 stamped Date times = time_text Date times ++ codes " "
 
--- the time as a member of a JSON object: a number of seconds, or a string
+-- the time as a member of a JSON object: a number of seconds, or a string for a date. For `Untimed` there is no such
+-- member.
 abbrev pub json_time : Stamp → Times → List ℕ
 json_time Untimed times = []
 json_time Start times = codes ",\"time\":" ++ time_text Start times

@@ -23,7 +23,7 @@ begun false t = t
 begun true [] = []
 begun true (byte ∷ bytes) = if byte == 0 then bytes else begun true bytes
 
--- whether bytes are still skipped after these bytes
+-- whether bytes are still skipped after these bytes; the flag says whether they were skipped before
 abbrev pub skips_on : Bool → List ℕ → Bool
 skips_on false t = false
 skips_on true [] = true
@@ -98,8 +98,8 @@ pub record HasShownAll (settings : Settings) (tally : Tally) (from to before aft
   pub end : IsAtEnd to
 
 -- the effects of a run of `show` with this result. At the end of the input, and also if a read failed, the text of all
--- pieces that were read has been written, and if a piece has begun, the text says so. After a failed write nothing is
--- claimed: part of the text may have been written.
+-- pieces that were read has been written, followed by the text of `shown_end`. If memory ran out, nothing was read or
+-- written. After a failed write nothing is claimed: part of the text may have been written.
 abbrev pub HasShown : Settings → Result Tally WatchFault → (from to before after : Option (List ℕ)) → Type 0
 HasShown settings (Ok tally) from to before after = HasShownAll settings tally from to before after
 HasShown settings (Err ReadFailed) from to before after = HasWritten (shown_ended settings) from to before after

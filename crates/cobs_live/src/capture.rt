@@ -6,7 +6,8 @@ ghost use Rattle.cobs_live.specs.Capture.{capture_head, record_head, word};
 use std::io::{self, Write};
 
 /// Writes the header of a capture file: the number that marks the format, the version 2.4, the time zone UTC, the
-/// greatest length of a record (16 MiB), and the type of the records' contents, 147 (`USER0`).
+/// accuracy of the times (always given as 0), the greatest length of a record (16 MiB), and the type of the records'
+/// contents (147, `USER0`).
 pub fn write_capture_head<W: Write>(output: &mut W) -> io::Result<()>
     ensures written { OnOk result
         (Appends (W.contents output.old) (W.contents output.new) capture_head) }
@@ -17,7 +18,7 @@ pub fn write_capture_head<W: Write>(output: &mut W) -> io::Result<()>
 }
 
 /// Writes the header of a record: the record's time in seconds and microseconds, the number of captured bytes, and the
-/// number of sent bytes. Both of these numbers are `len`. `time` is in milliseconds since 1970.
+/// number of sent bytes. Both numbers of bytes are `len`. `time` is in milliseconds since 1970.
 pub fn write_record_head<W: Write>(output: &mut W, time: u64, len: usize) -> io::Result<()>
     ensures written { OnOk result
         (Appends (W.contents output.old) (W.contents output.new) (record_head time len)) }

@@ -12,8 +12,8 @@ pub struct Checksum {
     /// Whether the checksum's lowest byte comes first. Otherwise its highest byte comes first.
     pub little: bool,
 
-    /// The table that `table_of` computes from the polynomial. With this table, a byte of a message needs one look-up
-    /// instead of eight steps.
+    /// The table that `table_of` computes from the polynomial. With this table, each byte of a message takes one
+    /// look-up, instead of one step for each of its eight bits.
     words: [u32; 256],
 
     /// Every checksum has 1 to 4 bytes.

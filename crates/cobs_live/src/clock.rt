@@ -1,4 +1,4 @@
-//! The times at which pieces were read, and the text of these times.
+//! Measures the times at which pieces were read, and writes these times as text.
 ghost use Rattle.std.specs.Prelude.{◌≡◌, ◌≤◌, ◌*◌, ◌+ℤ◌, min, pos};
 ghost use Rattle.jiff_core.specs.DateTime.{civil_nanos};
 ghost use Rattle.jiff_core.specs.Timestamp.{nanos_of_seconds};
@@ -37,7 +37,7 @@ pub struct Moment {
     pub civil: DateTime,
     pub offset: Offset,
 
-    /// The date and time of day are those of `millis` in the zone.
+    /// `civil` is the date and time of day in the zone at `millis`.
     ghost shows: { civil_nanos civil ≡ pos (millis * 1_000_000) +ℤ nanos_of_seconds offset.seconds },
 }
 
@@ -67,7 +67,7 @@ impl Moment {
         }
     }
 
-    /// Writes the date, the time of day with three decimals, and the offset from UTC, in the format of RFC 3339.
+    /// Writes the date, the time of day to the millisecond, and the offset from UTC, in the format of RFC 3339.
     fn write<W: Write>(&self, output: &mut W) -> io::Result<()>
         ensures written { OnOk result
             (Appends (W.contents output.old) (W.contents output.new) (date_time self.now)) }
@@ -93,8 +93,8 @@ pub struct Timer<'a, C> {
 }
 
 impl<'a, C: Clock + Drop> Timer<'a, C> {
-    /// Makes a timer. It starts at 0, except for `Stamp::Date`: then it starts at the current number of milliseconds
-    /// since 1970.
+    /// Makes a timer. For `Stamp::Date`, the timer starts at the current number of milliseconds since 1970. For the
+    /// other stamps, it starts at 0.
     ///
     /// # Errors
     /// Returns the error of `clock` if the clock can't be read.
@@ -112,7 +112,7 @@ impl<'a, C: Clock + Drop> Timer<'a, C> {
         })
     }
 
-    /// Returns the current time, which is never before `last`. If the clock went back, or can't be read, returns
+    /// Returns the current time, or `last` if the clock went back or can't be read. So the result is never before
     /// `last`.
     fn read(&self, last: Moment) -> Moment
         ensures later { last.millis ≤ result.millis }
@@ -125,13 +125,13 @@ impl<'a, C: Clock + Drop> Timer<'a, C> {
     }
 }
 
-/// Returns a duration in whole milliseconds, at most `u64::MAX`.
+/// Returns the duration in whole milliseconds, or `u64::MAX` if that number is greater.
 fn millis_of(duration: Duration) -> u64 {
     u64::try_from(duration.as_millis()).unwrap_or(u64::MAX)
 }
 
-/// Two times: `last`, when the previous piece ended, and `next`, when the latest bytes were read. A piece that ends in
-/// these bytes has the time `next`.
+/// Two times: `last` is the time at which the previous piece ended, and `next` is the time at which the latest bytes
+/// were read. A piece that ends in the latest bytes has the time `next`.
 #[derive(Clone, Copy)]
 pub struct Times {
     pub last: Moment,
@@ -162,7 +162,7 @@ impl Times {
         self.next = timer.read(self.last);
     }
 
-    /// Sets `last` to `next`, after a piece that ended at the time `next`.
+    /// Sets `last` to `next`. This function is called after each piece, because the piece ended at the time `next`.
     pub fn advance(&mut self)
         ensures last { self.new.last ≡ self.old.next }
         ensures next { self.new.next ≡ self.old.next }
@@ -218,7 +218,7 @@ impl Times {
         }
     }
 
-    /// Writes milliseconds as seconds with three decimals.
+    /// Writes a time in milliseconds as seconds with three decimals.
     fn write_seconds<W: Write>(output: &mut W, time: u64) -> io::Result<()>
         ensures written { OnOk result
             (Appends (W.contents output.old) (W.contents output.new) (seconds time)) }

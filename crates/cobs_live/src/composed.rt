@@ -26,14 +26,14 @@ use std::str;
 /// The length in bytes of the longest message whose text is composed.
 const SHORT_LEN: usize = 256;
 
-/// The greatest length in bytes of a line without the digits of its message: the word `message`, a space, a number of
-/// up to 40 digits, a space and a newline.
+/// The greatest length in bytes of a line, without the hexadecimal digits of the message: the word `message`, a space,
+/// a number of up to 40 digits, a space and a newline.
 const LINE: usize = 50;
 
 /// The greatest length in bytes of a composed text.
 const ROOM: usize = 2_048;
 
-/// The error of a call if its text doesn't fit the room that is left.
+/// The error of a call whose text doesn't fit the remaining room.
 #[derive(Debug, PartialEq, Eq, Clone, Copy)]
 struct Full;
 
@@ -41,7 +41,7 @@ struct Full;
 /// test takes longer than composing the text of a short message. So there is at most one write for each message.
 #[derive(Drop)]
 pub struct Composed {
-    /// The text is the first `len` bytes.
+    /// The text is the first `len` of these bytes.
     bytes: [u8; ROOM],
 
     /// The length of the text, at most `ROOM`. No invariant states this limit, so the functions below test it.
@@ -90,14 +90,15 @@ impl Composed {
         ROOM - LINE - 2 * SHORT_LEN < self.len
     }
 
-    /// Adds the text of a piece and returns true, or adds nothing and returns false. It returns true only if all these
-    /// conditions hold:
+    /// Adds the text of a piece and returns true, or adds nothing and returns false. The result is true only if both of
+    /// these conditions hold:
     ///
     /// - The piece is a short message, and its text fits.
-    /// - The view has the style `Raw` without numbers, or the style `Hex` without colours, numbers and times.
+    /// - The view has the style `Raw` and shows no numbers, or it has the style `Hex` and shows no colours, numbers or
+    ///   times.
     ///
-    /// If the view's filter hides the message, its text is empty. The text is written later, so one write can contain
-    /// the text of many messages. The text has no number and no time, so the clause `kept` is true for every `number`
+    /// If the view's filter hides the message, the text is empty. The text is written later, so one write can contain
+    /// the texts of many messages. The text has no number and no time, so the clause `kept` is true for every `number`
     /// and all `times`.
     #[inline(always)]
     pub fn keep(&mut self, view: &View, piece: &Sight<'_>) -> bool
@@ -112,7 +113,7 @@ impl Composed {
         }
     }
 
-    /// Adds the text of a piece for a view with the style `Hex`, under the conditions of [`keep`](Composed::keep).
+    /// Adds the text of a piece for a view with the style `Hex`, under the same conditions as [`keep`](Composed::keep).
     #[inline(always)]
     fn keep_hex(&mut self, view: &View, piece: &Sight<'_>) -> bool
         requires style { view.now.style ≡ Hex }
@@ -132,7 +133,7 @@ impl Composed {
         true
     }
 
-    /// Adds the text of a piece for a view with the style `Raw`, under the conditions of [`keep`](Composed::keep).
+    /// Adds the text of a piece for a view with the style `Raw`, under the same conditions as [`keep`](Composed::keep).
     #[inline(always)]
     fn keep_raw(&mut self, view: &View, piece: &Sight<'_>) -> bool
         requires style { view.now.style ≡ Raw }
@@ -140,7 +141,7 @@ impl Composed {
             ≡ take self.old.len self.old.bytes ++ in_view view.now number times (seen_in piece.now) }
         ensures same { (result ≡ false) → take self.new.len self.new.bytes ≡ take self.old.len self.old.bytes }
     {
-        // Raw messages have no colour and no time, so only the number is tested.
+        // The style `Raw` never shows a colour or a time, so only `view.number` is tested.
         if view.number || piece.kind != Kind::Message || SHORT_LEN < piece.bytes.len() {
             return false;
         }
@@ -154,10 +155,10 @@ impl Composed {
         true
     }
 
-    /// Replaces the composed text by the text of a piece, and returns whether this succeeded. It succeeds only if the
-    /// piece is a short message and its text fits, and only for a view with the style `Json` that shows neither a
-    /// colour, nor a number or a time before each message. If it fails, the composed text may be only a part of the
-    /// piece's text, so the caller clears it. If the view's filter hides the message, its text is empty.
+    /// Replaces the composed text with the text of a piece, and returns true if this succeeded. It succeeds only if the
+    /// piece is a short message whose text fits, if the view's style is `Json`, and if [`is_bare`] returns true for the
+    /// view. If it fails, the composed text may be only a part of the piece's text, so the caller clears the composed
+    /// text. If the view's filter hides the message, the text is empty.
     #[inline(always)]
     pub fn compose(&mut self, view: &View, number: u64, times: &Times, piece: &Sight<'_>) -> bool
         ensures shown { IsTrue result → take self.new.len self.new.bytes
@@ -176,10 +177,10 @@ impl Composed {
         self.put_message(view.style, number, piece).is_ok()
     }
 
-    /// Adds a message with this number, but without colour or time, if the style is `Json`. For other styles,
-    /// `put_message` returns `Full`, and the caller writes the text directly. The text has no time, so the clause `put`
-    /// is true for all `times`. [`compose`](Composed::compose) has already tested the style. The style is matched
-    /// again, because the clause `put` is stated for every style.
+    /// Adds a message with this number, but without a colour or a time, if the style is `Json`. For every other style,
+    /// returns `Full`, and the caller writes the text directly. The text has no time, so the clause `put` is true for
+    /// all `times`. [`compose`](Composed::compose) has already tested the style. `put_message` matches the style again,
+    /// because the clause `put` is stated for every style.
     #[inline(always)]
     fn put_message(&mut self, style: Style, number: u64, piece: &Sight<'_>) -> Result<(), Full>
         requires message { piece.now.kind ≡ Message }
@@ -194,7 +195,8 @@ impl Composed {
         }
     }
 
-    /// Adds the line of a message: the word `message`, its length, and its bytes as hexadecimal digits.
+    /// Adds the line of a message: the word `message`, the message's length, and the message's bytes as hexadecimal
+    /// digits.
     #[inline(always)]
     fn append_hex(&mut self, piece: &Sight<'_>)
         requires message { piece.now.kind ≡ Message }
@@ -226,7 +228,8 @@ impl Composed {
         self.put(b"}\n")
     }
 
-    /// Adds the members of a JSON object for a message: its length, its bytes and, if the message is UTF-8, its text.
+    /// Adds the members of a JSON object for a message: the message's length, its bytes and, if the message is UTF-8,
+    /// its text.
     fn put_json_message(&mut self, len: usize, bytes: &[u8]) -> Result<(), Full>
         ensures put { OnOk result (Appends (contents_of self.old) (contents_of self.new)
             (json_message len bytes.now)) }
@@ -251,7 +254,7 @@ impl Composed {
         self.put(b"\"")
     }
 
-    /// Adds a text as a part of a JSON string: quotes, backslashes and hidden characters are escaped.
+    /// Adds a text as a part of a JSON string. Quotes, backslashes and hidden characters are escaped.
     fn put_escaped(&mut self, text: &str) -> Result<(), Full>
         ensures put { OnOk result (Appends (contents_of self.old) (contents_of self.new) (text_escaped text.now)) }
     {
@@ -301,7 +304,7 @@ impl Composed {
         if code < 65_536 {
             return self.put_unit(code as u16);
         }
-        // The surrogates are computed as in `write_escape` of `escape.rt`.
+        // The surrogates are computed as in `write_escape` in `escape.rt`.
         self.put_unit((0xD800 + (code - 65_536) / 1024 % 1024) as u16)?;
         self.put_unit((0xDC00 + code % 1024) as u16)
     }
@@ -327,7 +330,7 @@ impl Composed {
         Ok(())
     }
 
-    /// Adds bytes as lower-case hexadecimal digits, or returns `Full` if they don't fit.
+    /// Adds bytes as lower-case hexadecimal digits, or returns `Full` if the digits don't fit.
     #[tactic(auto, unfolding(crate::specs::Composed::contents_of))]
     #[inline(always)]
     fn put_digits(&mut self, bytes: &[u8]) -> Result<(), Full>
@@ -401,7 +404,7 @@ impl Composed {
     }
 }
 
-/// Returns whether the view shows neither a colour, nor a number or a time before each message.
+/// Returns whether the view shows no colours, and writes no number and no time before a message.
 fn is_bare(view: &View) -> bool
     ensures bare { IsTrue result
         → (view.now.color ≡ false) × (view.now.number ≡ false) × (view.now.stamp ≡ Untimed) }

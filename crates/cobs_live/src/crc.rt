@@ -44,7 +44,7 @@ pub struct Params {
     /// The initial value of the register.
     pub init: u32,
 
-    /// Whether the bits of each byte, and at the end the bits of the register, are reversed (*refin* and *refout* of
+    /// Whether the bits of each byte, and at the end the bits of the register, are reversed (*refin* and *refout* in
     /// the catalogue).
     pub reflected: bool,
 
@@ -81,8 +81,8 @@ impl Crc {
 /// The highest bit of a register.
 const HIGH: u32 = 0x8000_0000;
 
-/// Returns a table with an entry for each byte: the result of eight steps of [`shifted`] for a register that has this
-/// byte in its highest 8 bits and zeros in its other bits.
+/// Returns a table with an entry for each byte. The entry is the register after eight calls of [`shifted`]. Before
+/// these calls, the register has the byte in its highest 8 bits and zeros in its other bits.
 pub(crate) fn table_of(poly: u32) -> [u32; 256]
     ensures table { IsTable poly result }
 {
@@ -93,8 +93,8 @@ pub(crate) fn table_of(poly: u32) -> [u32; 256]
     words
 }
 
-/// Returns the result of eight steps of [`shifted`] for a register that has this byte in its highest 8 bits and zeros
-/// in its other bits.
+/// Returns the register after eight calls of [`shifted`]. Before these calls, the register has `byte` in its highest 8
+/// bits and zeros in its other bits.
 fn word_of(poly: u32, byte: u32) -> u32
     requires byte { byte < 256 }
     ensures word { result ≡ word_of poly byte }

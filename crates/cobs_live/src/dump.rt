@@ -38,8 +38,8 @@ fn write_row<W: Write>(output: &mut W, offset: usize, row: &[u8]) -> io::Result<
     output.write_all(b"|\n")
 }
 
-/// Writes the digits of eight bytes, the first of which is at index `from`. If the row has fewer bytes, writes spaces
-/// for the missing digits.
+/// Writes the digits of eight bytes, the first of which is at index `from`. If the row ends before the last of them,
+/// writes spaces in place of the missing digits.
 fn write_cells<W: Write>(output: &mut W, row: &[u8], from: usize) -> io::Result<()>
     requires few { from < 16 }
     ensures written { OnOk result (Appends (W.contents output.old) (W.contents output.new)

@@ -9,8 +9,8 @@ use cobs_lines::write_digits;
 use std::io::{self, Write};
 use unicode::properties::GeneralCategory;
 
-/// Returns whether a character is hidden: a control character, or an invisible character that formats text or separates
-/// lines or paragraphs.
+/// Returns whether a character is hidden. The hidden characters are the control characters, and the invisible
+/// characters that format text or separate lines or paragraphs.
 pub fn is_hidden(c: char) -> bool
     ensures hidden { result ≡ is_hidden c }
 {
@@ -27,7 +27,7 @@ pub fn is_hidden(c: char) -> bool
         || category == GeneralCategory::ParagraphSeparator
 }
 
-/// Writes a text as a part of a JSON string: quotes, backslashes and hidden characters are escaped.
+/// Writes a text as a part of a JSON string. Quotes, backslashes and hidden characters are escaped.
 pub fn write_escaped<W: Write>(output: &mut W, text: &str) -> io::Result<()>
     ensures written { OnOk result (Appends (W.contents output.old) (W.contents output.new)
         (text_escaped text.now)) }
@@ -58,7 +58,7 @@ fn write_run<'a, W: Write>(output: &mut W, text: &'a str) -> io::Result<&'a str>
 }
 
 /// Returns the length in bytes of the text before its first character that needs an escape. ASCII characters are tested
-/// as bytes, because decoding each character takes longer.
+/// as bytes, because it takes longer to decode each character.
 pub(crate) fn visible_run(text: &str) -> usize
     ensures boundary { IsCharBoundary text.now result }
     ensures same { text_escaped text.now ≡ take result text.now ++ text_escaped (drop result text.now) }

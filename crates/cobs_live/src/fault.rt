@@ -9,8 +9,8 @@ use thiserror::Error;
 /// The reason why `run_show` or `run_send` failed.
 #[derive(Debug, PartialEq, Eq, Drop, Error)]
 pub enum WatchFault {
-    /// A read failed for a reason other than an interruption, or memory ran out while `run_send` read a line.
-    /// `run_show` has shown all pieces that had ended, and `run_send` has sent all earlier lines.
+    /// A read failed for a reason other than an interruption, or memory ran out while `run_send` read a line. Before
+    /// the fault, `run_show` has shown all pieces that had ended, and `run_send` has sent or skipped all earlier lines.
     #[error("read failed")]
     ReadFailed,
 
@@ -23,14 +23,14 @@ pub enum WatchFault {
     #[error("output closed")]
     OutputClosed,
 
-    /// Memory ran out. In `run_show`, this happens only at the start, before anything is read or written. In
-    /// `run_send`, this happens only while the message or the frame of a line is made.
+    /// Memory ran out. `run_show` returns this fault only at the start, before anything is read or written. `run_send`
+    /// returns it only if memory ran out while the message or the frame of a line was made.
     #[error("out of memory")]
     OutOfMemory,
 }
 
 impl From<AllocError> for WatchFault {
-    // States the result of `from`. Proofs of callers in which `?` converts an `AllocError` use this.
+    // This clause states the result of `from`. It is used to prove callers in which `?` converts an `AllocError`.
     ghost from_gives = { λ _ fault. fault ≡ OutOfMemory };
 
     fn from(_error: AllocError) -> WatchFault {

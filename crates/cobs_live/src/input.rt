@@ -23,16 +23,16 @@ pub enum Came {
 /// An input whose reads take the output as an extra argument.
 ///
 /// Contracts describe an input by the relation `step`. It relates the state of the input before a read, the read
-/// itself, and the state after the read. The record of the read includes the contents of the output when the read
+/// itself, and the state after the read. The read is recorded with the contents that the output had when the read
 /// began. So a theorem about any input can say which text had been written when each read began.
 pub trait LiveInput<W: Write + Drop> {
-    /// The bytes that the next reads will return, if these bytes are known.
+    /// The bytes that later reads will return, if these bytes are known.
     ghost remaining: { Self → Option (List ℕ) };
 
-    /// Whether this read may change the input from the first state to the second.
+    /// `step before read after` holds if `read` may change the input from the state `before` to the state `after`.
     ghost step: { Self → ReadEvent (Option ℕ) → Self → Type 0 };
 
-    /// Reads bytes into `chunk` once, as `Read::read` does, or returns `HungUp` if the line hung up.
+    /// Reads once into `chunk`, as `Read::read` does, or returns `HungUp` if the line hung up.
     fn read_beside(&mut self, output: &BufWriter<W>, chunk: &mut [u8]) -> io::Result<Came>
         ensures len { length chunk.new ≡ length chunk.old }
         ensures bytes { ReadTakes (remaining self.old) (remaining self.new) result chunk.new }
@@ -46,10 +46,10 @@ pub trait LiveInput<W: Write + Drop> {
 /// An input that is read line by line. Each read takes the output as an extra argument. Contracts describe a
 /// `LiveLines` in the same way as a [`LiveInput`].
 pub trait LiveLines<W: Write + Drop> {
-    /// The bytes that the next reads will return, if these bytes are known.
+    /// The bytes that later reads will return, if these bytes are known.
     ghost remaining: { Self → Option (List ℕ) };
 
-    /// Whether this read may change the input from the first state to the second.
+    /// `step before read after` holds if `read` may change the input from the state `before` to the state `after`.
     ghost step: { Self → ReadEvent ℕ → Self → Type 0 };
 
     /// Reads up to and including the next newline, or to the end of the input, and appends the bytes to `line`, as

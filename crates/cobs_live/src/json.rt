@@ -12,7 +12,7 @@ use std::io::{self, Write};
 use std::str;
 
 /// Writes a piece, with this number, as a JSON object on its own line. `stamp` says whether the object has a member
-/// `time`, and which time that is.
+/// `time`, and which time this member has.
 pub fn write_json<W: Write>(
     output: &mut W,
     number: u64,
@@ -30,8 +30,8 @@ pub fn write_json<W: Write>(
     output.write_all(b"}\n")
 }
 
-/// Writes the kind of a piece, and then the members for its length and its bytes. A piece that is too long has no
-/// member for its length.
+/// Writes the kind of a piece, then a member for its length, and then the members for its bytes. A piece that is too
+/// long has no member for its length.
 fn write_kind<W: Write>(output: &mut W, piece: &Sight<'_>) -> io::Result<()>
     ensures written { OnOk result (Appends (W.contents output.old) (W.contents output.new)
         (json_kind (seen_in piece.now).kind (seen_in piece.now).len (seen_in piece.now).bytes)) }
@@ -57,7 +57,8 @@ fn write_kind<W: Write>(output: &mut W, piece: &Sight<'_>) -> io::Result<()>
     }
 }
 
-/// Writes the member `hex` with the decoded bytes of a broken or too long piece. Without decoded bytes, writes nothing.
+/// Writes the member `hex` with the decoded bytes of a broken or too long piece. If there are no decoded bytes, writes
+/// nothing.
 fn write_partial<W: Write>(output: &mut W, bytes: &[u8]) -> io::Result<()>
     ensures written { OnOk result
         (Appends (W.contents output.old) (W.contents output.new) (json_partial bytes.now)) }

@@ -79,7 +79,7 @@ fn write_title<W: Write>(output: &mut W, kind: Kind, len: usize) -> io::Result<(
 }
 
 /// Writes the start of a piece's line: the title, and then the mark `partial` if the piece is broken or too long and
-/// has decoded bytes. The decoded bytes follow the mark.
+/// has decoded bytes. The caller then writes the decoded bytes.
 fn write_heading<W: Write>(output: &mut W, color: bool, piece: &Sight<'_>) -> io::Result<()>
     ensures written { OnOk result (Appends (W.contents output.old) (W.contents output.new)
         (heading color (seen_in piece.now))) }
@@ -88,8 +88,8 @@ fn write_heading<W: Write>(output: &mut W, color: bool, piece: &Sight<'_>) -> io
     write_mark(output, piece.kind, piece.bytes)
 }
 
-/// Writes the mark `partial` if the piece is broken or too long and has decoded bytes. The decoded bytes follow the
-/// mark.
+/// Writes the mark `partial` if the piece is broken or too long and has decoded bytes. The decoded bytes are written
+/// after the mark.
 fn write_mark<W: Write>(output: &mut W, kind: Kind, bytes: &[u8]) -> io::Result<()>
     ensures written { OnOk result
         (Appends (W.contents output.old) (W.contents output.new) (mark kind bytes.now)) }
@@ -122,8 +122,8 @@ fn write_hex<W: Write>(output: &mut W, color: bool, piece: &Sight<'_>) -> io::Re
     output.write_all(b"\n")
 }
 
-/// Writes the line of a piece, with its bytes as text if they are UTF-8 without hidden characters, and otherwise as
-/// hexadecimal digits.
+/// Writes the line of a piece. The piece's bytes are written as text if they are UTF-8 without hidden characters, and
+/// otherwise as hexadecimal digits.
 fn write_text<W: Write>(output: &mut W, color: bool, piece: &Sight<'_>) -> io::Result<()>
     ensures written { OnOk result (Appends (W.contents output.old) (W.contents output.new)
         (text_line color (seen_in piece.now))) }
@@ -175,7 +175,7 @@ fn write_alone<W: Write>(output: &mut W, style: Style, time: u64, bytes: &[u8]) 
     }
 }
 
-/// Writes a line with the title of a piece, and below it the piece's bytes, sixteen per line.
+/// Writes a line with the title of a piece. Below this line, writes the piece's bytes, sixteen per line.
 fn write_dumped<W: Write>(output: &mut W, color: bool, piece: &Sight<'_>) -> io::Result<()>
     ensures written { OnOk result (Appends (W.contents output.old) (W.contents output.new)
         (dump_lines color (seen_in piece.now))) }

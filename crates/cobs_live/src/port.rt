@@ -37,9 +37,9 @@ impl<'a, C: Clock + Drop, F: Drop> Port<'a, C, F> {
         }
     }
 
-    /// Returns whether the port has to try the call again. If the call would have blocked, pauses and returns true. If
-    /// the call failed for another reason, stores the system's error number in `reason`. The number of an interruption
-    /// isn't stored, because the port's caller tries again after an interruption.
+    /// Returns whether the port has to try a call with the result `done` again. If the call would have blocked, pauses
+    /// and returns true. If the call failed for another reason, stores the system's error number in `reason`. The error
+    /// number of an interruption isn't stored, because the port's caller tries again after an interruption.
     fn tries_again(&self, done: &io::Result<usize>) -> bool
         ensures failed { IsOk done.now → result ≡ false }
     {
@@ -57,7 +57,7 @@ impl<'a, C: Clock + Drop, F: Drop> Port<'a, C, F> {
     }
 }
 
-// The loops of this file limit the number of tries, because every function is proved to end.
+// The loops in this file limit the number of tries, because every function is proved to end.
 impl<C: Clock + Drop, R: Read + Drop> Read for Port<'_, C, R> {
     ghost use Rattle.cobs_live.specs.Ports.{inner_of};
 
@@ -160,7 +160,7 @@ impl<C: Clock + Drop, O: Opener<R> + Drop, R: Read + Drop, W: Write + Drop> Live
             return Err(ErrorKind::NotConnected.into());
         };
         let given = line.read(chunk);
-        // A read into an empty chunk returns no bytes, but isn't a hang-up.
+        // A read into an empty chunk returns no bytes even if the line hasn't hung up.
         if !chunk.is_empty() && is_hang_up(&given) {
             self.line = None;
             return Ok(Came::HungUp);
@@ -172,8 +172,8 @@ impl<C: Clock + Drop, O: Opener<R> + Drop, R: Read + Drop, W: Write + Drop> Live
     }
 }
 
-/// Returns whether a read with this result is a hang-up. A read is a hang-up if it returned no bytes, or if it failed
-/// with an error other than "interrupted" or "would block".
+/// Returns whether a read with this result means that the line hung up. The chunk of the read isn't empty. The line
+/// hung up if the read returned no bytes, or if it failed with an error other than "interrupted" or "would block".
 fn is_hang_up(given: &io::Result<usize>) -> bool {
     match given {
         Ok(count) => *count == 0,
@@ -189,7 +189,7 @@ pub struct Logged<W, L> {
     inner: W,
     log: Option<L>,
 
-    /// The error of a failed write to the log. It is kept until the next flush returns it.
+    /// The error of a write to the log that failed. It is kept until the next flush returns it.
     failed: Option<io::Error>,
 }
 
@@ -210,7 +210,7 @@ impl<W: Write + Drop, L: Write + Drop> Logged<W, L> {
         }
     }
 
-    /// Writes the bytes to the log, if there is a log and `failed` has no error.
+    /// Writes the bytes to the log, if there is a log and `failed` is `None`.
     fn write_log(&mut self, bytes: &[u8])
         ensures inner { self.new.inner ≡ self.old.inner }
         ensures logged { self.new.failed ≡ None

@@ -22,11 +22,11 @@ pub struct Sight<'a> {
     /// The kind of the piece.
     pub kind: Kind,
 
-    /// The number of bytes that the piece decodes to, without a right checksum. For a piece that is too long, the
-    /// number is `usize::MAX`.
+    /// The number of bytes that the piece decodes to. The bytes of a right checksum aren't counted. For a piece that is
+    /// too long, the number is `usize::MAX`.
     pub len: usize,
 
-    /// The bytes of a message, without a right checksum. For a broken or too long piece, these are the decoded bytes
-    /// that the buffer holds, or no bytes if the decoded bytes aren't shown.
+    /// The bytes of a message, without its checksum if the checksum is right. For a broken or too long piece, these are
+    /// the decoded bytes that the buffer holds, or no bytes if the decoded bytes aren't shown.
     pub bytes: &'a [u8],
 }

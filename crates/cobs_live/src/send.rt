@@ -34,9 +34,9 @@ pub struct Settings {
 /// Otherwise the message is the line without its newline. If `settings.checksum` is set, the checksum follows the
 /// message in the frame.
 ///
-/// Returns whether every line was sent. If `settings.hex` is set, a line that isn't hexadecimal digits is skipped, and
-/// its number, counted from 1, is reported on `errors`. An interrupted read is tried again. Memory is never allocated
-/// for more than one line, its message and its frame at a time.
+/// Returns whether every line was sent. If `settings.hex` is set, a line that can't be read as hexadecimal digits is
+/// skipped, and its number, counted from 1, is reported on `errors`. An interrupted read is tried again. At any time,
+/// memory is allocated for at most one line, its message and its frame.
 ///
 /// # Errors
 /// - `ReadFailed`: a read failed, or memory ran out while a line was read. All earlier lines were sent or skipped.
@@ -60,11 +60,11 @@ pub fn run_send<S: LiveLines<W>, W: Write + Drop, E: Write>(
 {
     let mut line = Vec::new(alloc);
     let mut all_sent = true;
-    // The loop has a greatest number of lines, because each function is proved to end.
+    // The number of lines is limited, because every function is proved to end.
     'by_line: for number in 1..usize::MAX {
         line.clear();
-        // The read doesn't need the output. It is an argument so that the clause `live` can say that the output held
-        // the frames of all earlier lines when this read began.
+        // The read doesn't need the output. The output is an argument so that the clause `live` can say that the output
+        // held the frames of all earlier lines when this read began.
         let Ok(count) = input.read_line_beside(output, &mut line) else {
             return Err(WatchFault::ReadFailed);
         };
@@ -77,7 +77,7 @@ pub fn run_send<S: LiveLines<W>, W: Write + Drop, E: Write>(
             let _ = writeln!(errors, "cobs_watch: line {number}: not hexadecimal digits");
         }
     }
-    // After the greatest number of lines, the call ends as if a read had failed. No input has so many lines.
+    // After `usize::MAX - 1` lines, the call ends as if a read had failed. No input has that many lines.
     Err(WatchFault::ReadFailed)
 }
 
@@ -92,7 +92,7 @@ fn without_newline(line: &[u8]) -> &[u8]
     }
 }
 
-/// Sends the message of a line's text. Returns false if the text should be hexadecimal digits but isn't.
+/// Sends the message of a line's text. Returns false if the text should be read as hexadecimal digits but can't be.
 fn send_text<W: Write + Drop>(
     alloc: Global,
     settings: &Settings,
@@ -139,8 +139,8 @@ fn digits_of(alloc: Global, text: &[u8]) -> Result<Vec<u8>, AllocError>
     Ok(digits)
 }
 
-/// Returns whether a byte of a line should be a digit. Every byte should be one, except spaces, tabs and carriage
-/// returns.
+/// Returns whether a byte of a line should be a digit. Every byte should be a digit, except for spaces, tabs and
+/// carriage returns.
 fn is_digit(byte: u8) -> bool
     ensures digit { result ≡ is_digit byte }
 {
@@ -200,7 +200,7 @@ pub fn with_sum(alloc: Global, checksum: &Checksum, message: &[u8]) -> Result<Ve
 fn ended_frame(alloc: Global, sentinel: u8, message: &[u8]) -> Result<Vec<u8>, AllocError>
     ensures frame { IfOk result (λ bytes. IsSent sentinel message.now bytes.items) }
 {
-    // For a longer message, the length of the frame could be too great for a `usize`.
+    // If a message has more than `usize::MAX / 2` bytes, the length of its frame could be too great for a `usize`.
     if usize::MAX / 2 < message.len() {
         return Err(AllocError);
     }

@@ -33,15 +33,15 @@ use std::io::{BufWriter, ErrorKind, Write};
 use std::rt::Clock;
 
 /// The first search for the zero that ends a short frame looks at this many bytes, which fill one vector. The second
-/// search looks at [`NEAR`] bytes.
+/// search looks at up to [`NEAR`] bytes.
 const NEAREST: usize = 16;
 
 /// The second search for the zero that ends a short frame looks at up to this many bytes. If none of them is a zero,
 /// all remaining bytes of the chunk are passed to the decoder.
 const NEAR: usize = 64;
 
-/// The greatest number of bytes of one read: 64 KiB. If a read returns fewer bytes, the pieces that end in them are
-/// shown before more bytes are read.
+/// The greatest number of bytes of one read: 64 KiB. Even if a read returns fewer bytes, the pieces that end in them
+/// are shown before more bytes are read.
 pub const CHUNK_LEN: usize = 65_536;
 
 /// Shows each piece of the input when the piece's sentinel arrives. At the end of the input, shows `unfinished` if a
@@ -53,9 +53,9 @@ pub const CHUNK_LEN: usize = 65_536;
 /// output. So before the program waits for more bytes, it has written all pieces that have ended. Memory is allocated
 /// only before the first read: for a message of the greatest length, and for a chunk of the input.
 ///
-/// If `counting.at_end` is set, the counts are written to `errors` at the end, even after a fault. `counting.every` is
-/// an interval in milliseconds, or `None`. With an interval, the counts so far are also written while bytes arrive, at
-/// most once per interval. A failure to write the counts isn't a fault.
+/// If `counting.at_end` is set, the counts of pieces and bytes are written to `errors` at the end, even after a fault.
+/// `counting.every` is an interval in milliseconds, or `None`. If it is an interval, the counts so far are also written
+/// while bytes arrive, at most once per interval. A failure to write the counts isn't a fault.
 ///
 /// # Errors
 /// - `ReadFailed`: a read failed, for example because a serial line was unplugged. All pieces that had ended before
@@ -146,14 +146,14 @@ impl<'a> Watch<'a> {
 
     /// Reads once into `chunk`, shows each piece that ends in the bytes of this read, and flushes the output. Returns
     /// whether the input continues. At the end of the input, after a failed read and after a hang-up, shows
-    /// `unfinished` if a piece has begun but not ended. After a hang-up, then shows `hung up`.
+    /// `unfinished` if a piece has begun but not ended. Then, if the line hung up, shows `hung up`.
     ///
-    /// Nothing is written before the read. The output has been flushed when the read begins (`flushed`), so all pieces
-    /// that have ended by then have been shown. An interrupted read is tried again.
+    /// Nothing is written before the read. The output has been flushed when the read begins (clause `flushed`), so all
+    /// pieces that have ended by then have been shown. An interrupted read is tried again.
     ///
     /// # Errors
     /// Returns `ReadFailed` if the read failed. Then no piece has ended in this call. Returns `WriteFailed` if a write
-    /// or a flush failed, or `OutputClosed` if it failed because nobody reads the output any more.
+    /// or a flush failed, but `OutputClosed` if it failed because nobody reads the output any more.
     pub fn show_next<C: Clock + Drop, S: LiveInput<W>, W: Write + Drop>(
         &mut self,
         timer: &Timer<'_, C>,
@@ -168,8 +168,8 @@ impl<'a> Watch<'a> {
             (S.remaining input.old) before (W.contents (writer_inner output.old)) self.old
             → ShowsNext settings result from (S.remaining input.new) before
             (W.contents (writer_inner output.new)) self.new }
-        // If every ended piece had been shown when each earlier read began, this is also true for the read of this
-        // call.
+        // If every ended piece had been shown when each earlier read began, this is also true when the read of this
+        // call begins.
         ensures live { (settings : Settings) (start : S) (from before : Option (List ℕ))
             → IsLiveSoFar S.step start input.old settings from (S.remaining input.old) before
             (W.contents (writer_inner output.old)) self.old
@@ -255,8 +255,8 @@ impl<'a> Watch<'a> {
     }
 }
 
-/// Reads once into the chunk, and tries again if the read was interrupted. Every read of [`run_show`] is made here,
-/// after the output has been flushed.
+/// Reads once into the chunk, and tries again if the read was interrupted. Every read of [`run_show`] is made by this
+/// function, after the output has been flushed.
 fn read_chunk<S: LiveInput<W>, W: Write + Drop>(
     input: &mut S,
     output: &BufWriter<W>,
@@ -319,7 +319,7 @@ fn behind_first<'a>(skipping: &mut bool, bytes: &'a [u8]) -> &'a [u8]
     &[]
 }
 
-/// Shows the pieces that end in the bytes, and counts them.
+/// Shows and counts the pieces that end in the bytes.
 fn show_bytes<W: Write>(
     decoder: &mut UnbufferedDecoder,
     message: &mut [u8],
@@ -361,7 +361,7 @@ fn show_bytes<W: Write>(
 
 /// Returns the bytes to pass to the decoder in one call: the bytes up to and including the first zero if this zero is
 /// among the first [`NEAR`] bytes, and otherwise all bytes. So the decoder gets a short frame without the bytes after
-/// it, and uses the code that is fastest for a short frame.
+/// the frame, and decodes it with the code that is fastest for short frames.
 #[inline(always)]
 fn front(bytes: &[u8]) -> &[u8]
     requires some { 0 < length bytes.now }

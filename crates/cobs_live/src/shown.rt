@@ -21,15 +21,15 @@ pub enum Style {
     /// A line for each piece, with the bytes of a message as hexadecimal digits.
     Hex,
 
-    /// A line for each piece, with a message as text if it is UTF-8 without hidden characters, and otherwise as
+    /// A line for each piece. A message is written as text if it is UTF-8 without hidden characters, and otherwise as
     /// hexadecimal digits.
     Text,
 
     /// The bytes of each message, followed by a newline. Other pieces aren't shown.
     Raw,
 
-    /// A line for each piece. Below this line are the bytes of a message, sixteen per line. Each of these lines has an
-    /// offset, hexadecimal digits and characters.
+    /// A line for each piece. Below the line of a message are the message's bytes, sixteen per line. Each of these
+    /// lines has an offset, hexadecimal digits and characters.
     Hexdump,
 
     /// A JSON object for each piece, on its own line.
@@ -61,12 +61,12 @@ pub struct Filter {
     pub unfinished: bool,
 
     /// `min` and `max` are the least and the greatest number of decoded bytes that a shown piece may have. A piece that
-    /// is too long counts as `usize::MAX` bytes.
+    /// is too long counts as having `usize::MAX` decoded bytes.
     pub min: usize,
     pub max: usize,
 
-    /// A piece is shown only if its bytes begin with this prefix. Without [`View::partial`], broken and too long pieces
-    /// have no bytes.
+    /// A piece is shown only if its bytes begin with this prefix. If [`View::partial`] isn't set, broken and too long
+    /// pieces count as having no bytes.
     pub prefix: Vec<u8>,
 }
 
@@ -109,13 +109,13 @@ pub struct Settings {
     /// The byte that ends each frame.
     pub sentinel: u8,
 
-    /// Whether all bytes up to the first sentinel are skipped, because reading may begin in the middle of a frame.
-    /// After a hang-up, all bytes up to the next sentinel are always skipped.
+    /// Whether all bytes up to the first sentinel are skipped. These bytes may be the rest of a frame that began before
+    /// the first read. After a hang-up, all bytes up to the next sentinel are always skipped.
     pub skip_first: bool,
 }
 
 /// Converts the end of a piece to a [`Sight`]. The front of `buffer` has the bytes that the piece decodes to, as far as
-/// they fit. If there is a checksum, each message should end with its checksum.
+/// they fit. If `checksum` isn't `None`, each message should end with its checksum.
 pub fn sight_of<'a>(checksum: &Option<Checksum>, end: PieceEnd, buffer: &'a [u8]) -> Sight<'a>
     requires within { IsWithin (length buffer.now) end }
     ensures seen { seen_in result ≡ seen_of checksum.now (outcome_at end buffer.now) }
@@ -135,8 +135,8 @@ pub fn sight_of<'a>(checksum: &Option<Checksum>, end: PieceEnd, buffer: &'a [u8]
     }
 }
 
-/// Returns the [`Sight`] of a message. If there is a checksum, the message should end with it. A right checksum is
-/// removed from the message. If the checksum is wrong, the kind is `BadCrc`.
+/// Returns the [`Sight`] of a message. If `checksum` isn't `None`, the message should end with its checksum. A right
+/// checksum is removed from the message. If the checksum is wrong, the kind is `BadCrc`.
 fn message_sight<'a>(checksum: &Option<Checksum>, message: &'a [u8]) -> Sight<'a>
     ensures seen { seen_in result ≡ seen_message checksum.now message.now }
 {
@@ -236,7 +236,7 @@ pub fn show_piece<W: Write>(
     write_line(output, view, number, times, piece)
 }
 
-/// Writes the time that precedes the line of a piece, or nothing if the style has no such time.
+/// Writes the time before the line of a piece, or nothing if lines of this style have no time before them.
 fn write_time<W: Write>(output: &mut W, view: &View, times: &Times) -> io::Result<()>
     ensures written { OnOk result (Appends (W.contents output.old) (W.contents output.new)
         (in_front view.now.style view.now.stamp times.now)) }

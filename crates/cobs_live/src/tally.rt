@@ -30,8 +30,8 @@ pub struct Counting {
     /// Whether the tally is written when the program ends: at the end of the input, or after a fault.
     pub at_end: bool,
 
-    /// An interval in milliseconds, or `None`. With an interval, the tally is also written while bytes arrive, at most
-    /// once per interval.
+    /// An interval in milliseconds, or `None`. If it is an interval, the tally is also written while bytes arrive, at
+    /// most once per interval.
     pub every: Option<u64>,
 }
 

@@ -14,7 +14,7 @@ use std::alloc::Global;
 use std::io::Write;
 
 /// Adds the view's checksum to a message, and shows the result as a received message. The text is the same as for the
-/// message without a checksum.
+/// message without a checksum. If the view has no checksum, writes nothing.
 pub fn show_sent<W: Write>(
     alloc: Global,
     output: &mut W,

@@ -81,8 +81,8 @@ const COLORED: [(Style, &[u8]); 3] = [
     ),
 ];
 
-/// The text of [`SHOWN`] with the time of each piece, by style and by the kind of time. A byte is read every 250 ms
-/// from 23:59:58.123 on, in UTC.
+/// The text of [`SHOWN`] with the time of each piece, by style and by the kind of time. The run begins at 23:59:58.123,
+/// in UTC. The first byte is read 250 ms later, and so is each further byte after the one before it.
 const TIMED: [(Style, Stamp, &[u8]); 4] = [
     (
         Style::Hex,
@@ -112,7 +112,8 @@ const TIMED: [(Style, Stamp, &[u8]); 4] = [
 ];
 
 /// The text by style, if the decoded bytes of broken pieces and of too long pieces are shown too. There are four
-/// pieces: a broken piece, a piece that is too long for four bytes, a piece that decodes to no byte, and a message.
+/// pieces: a broken piece, a piece that is too long for four bytes, a broken piece that decodes to no byte, and a
+/// message.
 const PARTIAL: [(Style, &[u8]); 5] = [
     (
         Style::Hex,

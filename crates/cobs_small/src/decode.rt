@@ -6,7 +6,7 @@ use cobs::laws::{law_1, law_12};
 use cobs::{PieceEnd, decode_piece};
 use cobs_abi::{Answer, BROKEN, EMPTY, TOO_SMALL, done};
 
-/// Decodes the first frame of the source to the front of `message`.
+/// Decodes the first frame of the source, and writes the message to the front of `message`.
 #[unsafe(no_mangle)]
 pub extern "C" fn jcobs_decode(source: &[u8], message: &mut [u8]) -> Answer
     ensures decodes { Decodes source.now message.old result message.new }

@@ -36,7 +36,7 @@ pub extern "C" fn jcobs_decoder_push(
     decode_each(decoder, buffer, bytes, 0)
 }
 
-/// Decodes the next byte of the stream. The contract is the same as for a `jcobs_decoder_push` of this byte.
+/// Decodes the next byte of the stream. The contract is the same as for a call of `jcobs_decoder_push` with this byte.
 #[unsafe(no_mangle)]
 pub extern "C" fn jcobs_decoder_feed(
     decoder: &mut UnbufferedDecoder,

@@ -6,7 +6,7 @@ ghost use Rattle.cobs_abi.specs.Encode.{Encodes, EncodesInPlace, EncodesTerminat
 use cobs::max_encoding_overhead;
 use cobs_abi::{Answer, done, encode_within, too_small, write_frame};
 
-/// Returns the length of the longest frame of a message of `message_len` bytes, or 0 if the frame's length doesn't fit
+/// Returns the length of the longest encoded frame of a message of `message_len` bytes, or 0 if this length doesn't fit
 /// the type of the result.
 #[unsafe(no_mangle)]
 pub extern "C" fn jcobs_max_length(message_len: usize) -> usize
@@ -50,8 +50,8 @@ pub extern "C" fn jcobs_encode_terminated(message: &[u8], frame: &mut [u8]) -> A
 }
 
 /// Encodes a message of `message_len` bytes in place. The message begins at index JCOBS_MAX_OVERHEAD(message_len) of
-/// the buffer. The frame is written to the front of the buffer. If the longest frame of a message of this length
-/// doesn't fit the buffer, nothing is written.
+/// the buffer. The frame is written to the front of the buffer. If the longest encoded frame of a message of this
+/// length doesn't fit the buffer, nothing is written.
 #[unsafe(no_mangle)]
 pub extern "C" fn jcobs_encode_in_place(buffer: &mut [u8], message_len: usize) -> Answer
     ensures encodes { EncodesInPlace message_len buffer.old result buffer.new }

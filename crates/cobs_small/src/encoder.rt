@@ -29,7 +29,7 @@ pub extern "C" fn jcobs_encoder_push(
     encode_each(encoder, buffer, bytes)
 }
 
-/// Encodes the next byte of a message. The contract is the same as for a `jcobs_encoder_push` of this byte.
+/// Encodes the next byte of a message. The contract is the same as for a call of `jcobs_encoder_push` with this byte.
 #[unsafe(no_mangle)]
 pub extern "C" fn jcobs_encoder_feed(
     encoder: &mut UnbufferedEncoder,

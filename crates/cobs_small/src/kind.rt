@@ -5,7 +5,7 @@ use cobs::laws::law_1;
 use cobs::{FrameKind, kind_by_blocks, len_to_zero};
 use cobs_abi::{CANONICAL, LONGER, NOT_A_FRAME};
 
-/// Returns the kind of the bytes: a frame that encoders write, another frame, or no frame.
+/// Returns whether the bytes are a frame that encoders write, another frame, or no frame.
 #[unsafe(no_mangle)]
 pub extern "C" fn jcobs_frame_kind(bytes: &[u8]) -> u32
     ensures kind { IsKindOf bytes.now result }

@@ -10,6 +10,7 @@ use std::test::Fail;
 
 /// Encodes a message that comes in these chunks (`pieces`), and returns the frame's length.
 fn encode_pieces(rt: &impl Abort, pieces: &[&[u8]], slice: &mut [u8]) -> usize {
+    // `CobsEncoder::new` requires this.
     assert!(rt; !slice.is_empty());
     let mut encoder = CobsEncoder::new(slice);
     for piece in pieces {
@@ -86,6 +87,7 @@ fn check_messages(
     for (count, numbers) in counts {
         for number in 0..*numbers {
             let message = chosen(alloc, parts, *count, number)?;
+            // The same number chooses the first half of the same parts.
             let front = chosen(alloc, parts, *count / 2, number)?;
             let frame = frame_of(alloc, &message)?;
             if let Some(back) = message.as_slice().get(front.len()..) {

@@ -73,6 +73,7 @@ struct Streamed<'a> {
 fn outcomes_of(alloc: Global, stream: &[u8], room: usize) -> Result<Vec<FrameOutcome>, AllocError> {
     let mut outcomes = Vec::new(alloc);
     let mut rest = stream;
+    // Each iteration passes a zero of the stream, so there are at most as many iterations as bytes.
     for _ in stream {
         let (piece, Some(behind)) = split_at_zero(rest) else {
             break;
@@ -145,7 +146,7 @@ fn check_lists(
 
 #[test]
 fn every_short_list_decodes_as_the_reference_says(rt: HostRuntime) -> Result<(), Fail> {
-    // A zero, the codes of blocks of up to two bytes, and the code of a full block, in all lists of up to five bytes.
+    // A zero, the codes 1 to 3, and the code of a full block, in all lists of up to five bytes.
     let parts: [&[u8]; 5] = [&[0], &[1], &[2], &[3], &[255]];
     let counts = [(0, 1), (1, 5), (2, 25), (3, 125), (4, 625), (5, 3125)];
     check_lists(&rt, rt.alloc(), &parts, &counts, &[0, 1, 2, 3, 4, 5])

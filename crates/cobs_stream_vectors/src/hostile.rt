@@ -1,4 +1,4 @@
-//! Tests of decoders after writes to the buffer inside a piece, and after resets inside a piece.
+//! Tests of decoders after writes to the buffer and after resets, between pieces and inside a piece.
 //!
 //! `rt` is the runtime: an assertion that fails aborts the test through it.
 use crate::streaming::{CallResult, Check, StreamingDecoder, check_all, feed_all, overwrite};
@@ -7,7 +7,7 @@ use std::alloc::Global;
 use std::process::Abort;
 use std::test::Fail;
 
-/// A row for each phase of a decoder: the length of the buffer, and the bytes that bring an idle decoder to this phase.
+/// Rows for the phases of a decoder: the length of the buffer, and the bytes that bring an idle decoder to the phase.
 const FRONTS: [(usize, Parts); 10] = [
     // idle, at the start and after a frame
     (4, &[]),
@@ -37,7 +37,8 @@ struct Written<'a> {
     is_pushed: bool,
 }
 
-/// Passes bytes to the decoder, and ignores the results.
+/// Passes bytes to the decoder, with one push or one by one, and ignores the results. A push may stop before the last
+/// byte.
 fn give<D: StreamingDecoder>(decoder: &mut D, bytes: &[u8], is_pushed: bool) {
     if is_pushed {
         let _ = decoder.push_some(bytes);
@@ -88,9 +89,11 @@ impl Check for Resets<'_> {
         let before = decoder.whole_buffer().to_vec(alloc)?;
         if decoder.begin_anew() {
             assert!(rt; decoder.whole_buffer() == before.as_slice());
+            // A zero after the reset ends no piece.
             assert_eq!(rt; feed_all(rt, &mut decoder, &[0]), CallResult::Nothing);
             check_idle(rt, &mut decoder);
 
+            // The reset makes the decoder idle even without a zero after it.
             give(&mut decoder, self.front, false);
             let _ = decoder.begin_anew();
             check_idle(rt, &mut decoder);

@@ -146,7 +146,8 @@ const OUTCOMES: &[Wanted] = &[
     END,
 ];
 
-/// Rows of readers. For each row, one decoder with a buffer of four bytes gets the row's readers, one after another.
+/// Rows of readers. The same `FrameReader`, whose decoder has a buffer of four bytes, reads from the readers of a row,
+/// one after another.
 const READERS: [&[ReaderRow]; 12] = [
     // an unfinished piece continues with another reader
     &[

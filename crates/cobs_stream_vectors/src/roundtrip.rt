@@ -22,6 +22,7 @@ fn ascending_from(alloc: Global, first: u16) -> Result<Vec<u8>, Fail> {
 ///
 /// Test of the original crate: `stream_roundtrip`, for messages of 1 to 1,000 bytes.
 fn check_stream(rt: &impl Abort, alloc: Global, message: &[u8]) -> Result<(), Fail> {
+    // With this bound, the message meets the precondition of `max_encoding_length`.
     assert!(rt; message.len() <= 1000);
     let mut frame = repeated(alloc, 0, max_encoding_length(message.len()))?;
     let len = encode_in_pieces(rt, alloc, message, 17, &mut frame)?;
@@ -48,7 +49,7 @@ fn streams_go_there_and_back(rt: HostRuntime) -> Result<(), Fail> {
     Ok(())
 }
 
-/// A test of a frame of two blocks or more. The frame comes in chunks of `size` bytes (`pieces`), and then a sentinel
+/// A test of the frame of [`LONG_MESSAGE`]. The frame comes in chunks of `size` bytes (`pieces`), and then a sentinel
 /// follows.
 #[derive(Drop)]
 struct Pieces<'a> {
@@ -58,9 +59,9 @@ struct Pieces<'a> {
 }
 
 impl Check for Pieces<'_> {
-    /// Checks that the push of each chunk returns no message, and that the push of the sentinel returns `returned`. If a
-    /// push returns an error, each later push must return an error too. At the end, the buffer must have the bytes of the
-    /// message that fit.
+    /// Checks that the push of each chunk returns no message, and that the push of the sentinel returns `returned`. If
+    /// a push returns an error, each later push must return an error too. At the end, the buffer must have the bytes of
+    /// the message that fit.
     fn check<D: StreamingDecoder + Drop>(
         &self,
         rt: &impl Abort,

@@ -117,7 +117,7 @@ pub fn check_all(
     let mut buffer = repeated(alloc, 0, room)?;
     check.check(rt, alloc, CobsDecoder::new(&mut buffer))?;
     check.check(rt, alloc, CobsDecoderOwned::new(alloc, room)?)?;
-    // The buffer of this decoder has a constant length, so each length that a test uses has an arm here.
+    // The buffer of a `CobsDecoderHeapless` has a constant length, so each length that a test uses has an arm here.
     match room {
         0 => check.check(rt, alloc, CobsDecoderHeapless::<0>::new()),
         1 => check.check(rt, alloc, CobsDecoderHeapless::<1>::new()),

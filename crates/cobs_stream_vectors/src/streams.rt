@@ -237,8 +237,8 @@ impl Check for Damage<'_> {
     }
 }
 
-/// For each nonzero byte of the damaged stream: its index in the stream, the number of its piece, and whether it is
-/// neither the first nor the last byte of that piece.
+/// For each nonzero byte of [`DAMAGED`]: its index in this stream, the number of its piece, and whether it is neither
+/// the first nor the last byte of that piece.
 const PLACES: [(usize, usize, bool); 13] = [
     (1, 0, false),
     (2, 0, true),
@@ -255,8 +255,8 @@ const PLACES: [(usize, usize, bool); 13] = [
     (16, 3, false),
 ];
 
-/// Checks a stream that differs from the damaged stream in one piece. The stream must have the outcomes of the other
-/// pieces and, in place of the outcome of that piece, `own` other outcomes.
+/// Checks a stream that differs from [`DAMAGED`] in one piece. The stream must have the outcomes of the other pieces
+/// and, in place of the outcome of that piece, `own` other outcomes.
 fn check_damage(
     rt: &impl Abort,
     alloc: Global,

@@ -1,6 +1,6 @@
--- Lemmas on the text of bytes that are printed as hexadecimal digits with spaces between them: the text that `{:02x}`
--- writes for a byte is `hex_of` (`hex_of_is`), and one byte more adds a space and its digits (`words_of-first`,
--- `words_of-next`).
+-- Lemmas on the text of bytes that are printed as hexadecimal digits with spaces between them. The text that `{:02x}`
+-- writes for a byte is `hex_of` (`hex_of_is`). The first byte adds its digits to the text (`words_of-first`), and each
+-- later byte adds a space and its digits (`words_of-next`).
 use Rattle.std.proofs.Common.{◌≡◌, ◌+◌, ◌/◌, ◌%◌, ◌<◌, ◌≤◌, ◌^◌, ◌-◌, ℕ, zero, suc, Bool, true, false, ◌&&◌, eqb, List, [], ◌∷◌, ◌++◌, map, length, take, get_or, slice_index, length-take, refl, ap, sym, ◌∙◌, append_assoc, arith}
 use Rattle.std.proofs.lemmas.Bool.Decides.{Decides-below_and, Decides-eqb}
 use Rattle.std.proofs.lemmas.Fmt.{hex_byte}
@@ -10,7 +10,7 @@ use Rattle.std.specs.List.{join_with_byte}
 use Rattle.hex.specs.Hex.{encode_with, lower_digits}
 use Rattle.cobs_tool.specs.Text.{hex_of}
 
--- the digits that formatting writes are those of the table
+-- THE DIGITS that formatting writes are those of the table `lower_digits`
 
 -- whether, for each number below n, the digit that formatting writes is the digit of the table
 all_in_table : ℕ → Bool
@@ -30,7 +30,8 @@ unfolding encode_with
 hex_of_is byte small =
     hex_byte false byte small ∙ rw (digit_glyph_is (byte / 16) (omega arith), digit_glyph_is (byte % 16) (omega arith)) refl
 
--- some pieces joined by the byte c, with one piece more, are the joined pieces, then c, then the last piece
+-- some texts (`pieces`), joined with the byte c between each two of them: with one text more, the result is the joined
+-- texts, then c, then the last text
 join_with_byte-push : (c : ℕ) (pieces : List (List ℕ)) (last : List ℕ) → 0 < length pieces
     → join_with_byte c (pieces ++ last ∷ []) ≡ join_with_byte c pieces ++ (c ∷ last)
 join_with_byte-push c [] last some = absurd (omega arith)

@@ -21,7 +21,7 @@ pub enum ToolFault {
 }
 
 impl From<AllocError> for ToolFault {
-    // States the result of `from`. Proofs of callers in which `?` converts an `AllocError` use this.
+    // This clause states the result of `from`. It is used to prove callers in which `?` converts an `AllocError`.
     ghost from_gives = { λ _ fault. fault ≡ OutOfMemory };
 
     fn from(_error: AllocError) -> ToolFault {

@@ -18,7 +18,7 @@ pub const READ_LEN: usize = 8_192;
 /// - `ReadFailed`: a read failed. An interrupted read is a failed read, and isn't tried again.
 /// - `InputTooLong`: the input has more than [`MAX_INPUT`] bytes. No memory was allocated for the read that exceeded
 ///   this limit.
-/// - `OutOfMemory`: memory ran out for the bytes of a read.
+/// - `OutOfMemory`: there wasn't enough memory for the bytes of a read.
 ///
 /// Nothing is read after a read that failed, returned 0 bytes or exceeded the limit.
 pub fn read_input<R: Read>(alloc: Global, input: &mut R) -> Result<Vec<u8>, ToolFault>

@@ -6,7 +6,7 @@
 //! |---|---|---|
 //! | none, or `show` | a message | its frame and a zero, as hexadecimal digits, on one line |
 //! | `encode` | a message | its frame and a zero, as raw bytes |
-//! | `decode` | a stream of frames | a line for each piece that a zero ends |
+//! | `decode` | a stream of frames | a line for each piece that a zero ends, and a line if one more piece has begun |
 //!
 //! The exit status is 0 if nothing failed. If the input is too long, or if a read, a write or an allocation failed, the
 //! status is 1, and a line on standard error says so. If the arguments are wrong, the status is 2, and standard error

@@ -1,11 +1,12 @@
 //! Tests each mode with too little memory.
 //!
-//! A *growth* is an allocation of memory. Each test here except the last one passes no matter which growth fails: a
-//! mode writes its whole output, or returns `OutOfMemory` and writes nothing. The last test passes only if no growth
-//! fails. `tests/fail-alloc.sh` makes one growth fail in each run: the first growth in the first run, the second growth
-//! in the second run, and so on, until the last test passes.
+//! A *growth* is an allocation of memory. Each test here except the last one accepts two outcomes: the mode writes its
+//! whole output, or it returns `OutOfMemory` and writes nothing. So these tests pass no matter which growth fails. The
+//! last test passes only if each mode writes its whole output. `tests/fail-alloc.sh` makes one growth fail in each run:
+//! the first growth in the first run, the second growth in the second run, and so on, until the last test has passed in
+//! three runs.
 //!
-//! `rt` is the runtime: an assertion that fails aborts the test through it.
+//! `rt` is the runtime. An assertion that fails aborts the test through `rt`.
 use crate::fault::ToolFault;
 use crate::mode::Mode;
 use crate::modes::run_mode;

@@ -5,19 +5,19 @@ ghost use Rattle.cobs_tool.specs.Words.{texts};
 /// The mode of the program.
 #[derive(Debug, PartialEq, Eq, Drop)]
 pub enum Mode {
-    /// Print a message's frame, and the zero after it, as hexadecimal digits.
+    /// Print a message's frame, followed by a zero, as hexadecimal digits.
     Show,
 
-    /// Write a message's frame and the zero after it.
+    /// Write a message's frame, followed by a zero.
     Encode,
 
     /// Print the outcome of each piece of a stream.
     Decode,
 }
 
-/// Returns the mode that the words after the program's name ask for: `Show` for no word or the word `show`, `Encode`
-/// for the word `encode`, and `Decode` for the word `decode`. For all other words it returns `None`, and the program
-/// prints its usage.
+/// Returns the mode that the words after the program's name ask for. If there are no words, or the only word is `show`,
+/// the mode is `Show`. For the single word `encode`, it is `Encode`, and for the single word `decode`, it is `Decode`.
+/// For all other words, the function returns `None`, and the program prints its usage.
 pub fn mode_of(words: &[String]) -> Option<Mode>
     ensures show { (result ≡ Some Mode.Show)
         ↔ ((texts words.now ≡ []) ⊎ (texts words.now ≡ codes "show" ∷ [])) }

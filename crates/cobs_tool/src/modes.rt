@@ -35,16 +35,16 @@ pub fn run_mode<R: Read, W: Write>(
     }
 }
 
-/// Prints the encoded frame of the input, and the zero after it, with two hexadecimal digits per byte.
+/// Prints the encoded frame of the input, followed by a zero, as two hexadecimal digits per byte.
 ///
 /// The whole input is one message. The input is read to its end, and the whole line is made, before any byte of the
-/// line is written. So after every fault except `WriteFailed` nothing has been written. After a `WriteFailed`, part of
-/// the line may have been written. Whether an interrupted write is tried again isn't specified.
+/// line is written. So nothing has been written if the fault isn't `WriteFailed`. If the fault is `WriteFailed`, part
+/// of the line may have been written. Whether an interrupted write is tried again isn't specified.
 ///
 /// # Errors
 /// - `ReadFailed`: a read failed. An interrupted read is a failed read.
 /// - `InputTooLong`: the reader returned more than [`MAX_INPUT`] bytes.
-/// - `OutOfMemory`: memory ran out for the input, its frame or the line.
+/// - `OutOfMemory`: there wasn't enough memory for the input, its frame or the line.
 /// - `WriteFailed`: a write or the flush failed.
 pub fn run_show<R: Read, W: Write>(
     alloc: Global,
@@ -64,7 +64,7 @@ pub fn run_show<R: Read, W: Write>(
     write_output(output, line.as_bytes())
 }
 
-/// Writes the encoded frame of the input, and a zero after it.
+/// Writes the encoded frame of the input, followed by a zero.
 ///
 /// The whole input is one message. The function reads the input in the same way as [`run_show`], and returns the same
 /// errors.

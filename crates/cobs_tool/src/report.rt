@@ -16,7 +16,8 @@ pub const DECODE_BUFFER_LEN: usize = 65_536;
 /// Returns one line for each piece that a zero ends, in order, and then the line `unfinished` if a piece has begun
 /// after the last zero.
 ///
-/// - `message N HEX`: a message of N bytes, as lower-case hexadecimal digits; `message 0` for the empty message.
+/// - `message N HEX`: the piece is a frame of a message of N bytes. HEX stands for these bytes as lower-case
+///   hexadecimal digits. For the empty message, the line is `message 0`.
 /// - `broken N`: the piece breaks off inside a block, and decodes to N bytes.
 /// - `too long`: the piece decodes to more than [`DECODE_BUFFER_LEN`] bytes.
 pub fn report_of(alloc: Global, stream: &[u8]) -> Result<String, AllocError>
@@ -42,8 +43,9 @@ pub fn report_of(alloc: Global, stream: &[u8]) -> Result<String, AllocError>
                 }
                 return Ok(text);
             }
-            // A read of bytes in memory never fails. A call fails after 65,536 reads, but each read returns 64 bytes as
-            // long as there are so many, so a stream of at most 1 MiB ends after at most 16,385 reads.
+            // A read from memory never fails. A call of `next_frame` also fails after 65,536 reads. But each read
+            // returns 64 bytes if at least 64 bytes are left, so a stream of at most 1 MiB ends after at most 16,385
+            // reads.
             Err(_) => unreachable!(),
         }
     }
@@ -62,7 +64,7 @@ fn push_message(alloc: Global, report: &mut String, message: &[u8]) -> Result<()
     writeln!(report, "message {len} {digits}")
 }
 
-/// Appends the line of a broken piece, which decodes to `count` bytes.
+/// Appends the line of a broken piece that decodes to `count` bytes.
 fn push_broken(report: &mut String, count: usize) -> Result<(), AllocError>
     ensures { OnOk result (string_bytes report.new
         ≡ string_bytes report.old ++ outcome_line (Broken count)) }

@@ -1,7 +1,7 @@
-//! Tests of facts that no contract states: a call with enough memory succeeds; a failed read or write leads to the
-//! right fault; and the texts for known inputs are right.
+//! Tests of facts that no contract states: a call with enough memory succeeds, a failed read or write leads to the
+//! right fault, and the texts for known inputs are right.
 //!
-//! `rt` is the runtime: an assertion that fails aborts the test through it.
+//! `rt` is the runtime. An assertion that fails aborts the test through `rt`.
 
 use crate::fault::ToolFault;
 use crate::mode::{Mode, mode_of};
@@ -15,7 +15,7 @@ use std::test::Fail;
 /// A mode, an input, and the output of the mode for this input.
 type Row = (Mode, &'static [u8], &'static [u8]);
 
-/// The modes, inputs and outputs that most of these tests use.
+/// The modes, inputs and outputs that several of these tests use.
 const ROWS: [Row; 11] = [
     (Mode::Show, b"hello", b"06 68 65 6c 6c 6f 00\n"),
     (Mode::Show, b"", b"01 00\n"),
@@ -253,7 +253,8 @@ fn each_write_and_each_flush_may_fail(rt: HostRuntime) {
 }
 
 /// Checks the greatest length of the input. `zeros` is one byte longer than this length. The mode must accept `zeros`
-/// without the last byte, and write `count` bytes. It must reject all of `zeros`, and an input that never ends.
+/// without the last byte, and write `count` bytes. It must reject `zeros` itself, and it must reject an input that
+/// never ends.
 fn check_limit(rt: &impl Abort, alloc: Global, mode: &Mode, zeros: &[u8], count: usize) {
     let mut output = Vec::new(alloc);
     let mut longest = zeros.split_last().map_or(zeros, |(_, front)| front);
@@ -283,7 +284,8 @@ fn input_has_a_limit(rt: HostRuntime) -> Result<(), Fail> {
 #[test]
 fn nothing_is_read_after_the_first_byte_too_many(rt: HostRuntime) -> Result<(), Fail> {
     let alloc = rt.alloc();
-    // One byte more than the greatest length of the input, which is 1 MiB. The reader returns one byte per read.
+    // `zeros` has one byte more than the greatest length of the input, which is 1 MiB. The reader returns one byte per
+    // read.
     let zeros = vec![in alloc; 0u8; 1_048_577]?;
     let mut input = ByteReader {
         bytes: &zeros,

@@ -17,8 +17,8 @@ pub fn fault_line(fault: &ToolFault) -> &'static str
     }
 }
 
-/// Returns the bytes on one line: two lower-case hexadecimal digits per byte, one space between two bytes, then a
-/// newline. For no bytes the line is only the newline.
+/// Returns a line with the bytes: two lower-case hexadecimal digits for each byte, with a space between the bytes, and
+/// a newline at the end. If there are no bytes, the line is only the newline.
 pub fn hex_line(alloc: Global, bytes: &[u8]) -> Result<String, AllocError>
     ensures digits { IfOk result (λ line. string_bytes line ≡ hex_line bytes.now) }
 {

@@ -5,7 +5,7 @@ use Rattle.cobs.specs.Grammar.{HasNoZero, Reads}
 use Rattle.cobs.specs.Headline.{BeginsWith, IsPiece}
 use Rattle.cobs.specs.Sentinel.{xor_each}
 
--- at least one byte without the sentinel s is a piece, once each byte is XORed with s
+-- if bytes that aren't empty have no zero after each of them is XORed with s, the XORed bytes are a piece
 pub coded_piece : (s : ℕ) (bytes : List ℕ) → bytes ≢ [] → HasNoZero (xor_each s bytes) → IsPiece (xor_each s bytes)
 coded_piece s [] some nonzero = absurd (some refl)
 coded_piece s (byte ∷ bytes) some nonzero = grind arith

@@ -53,8 +53,8 @@ pub fn reads_for(sentinel: u8, piece: &[u8], message: &[u8], buffer: &mut [u8]) 
     }
 }
 
-/// Decodes a short frame with [`decode_short`], and any other frame with [`decode`]. The result is always the result of
-/// [`decode`].
+/// Decodes the source with [`decode_short`] if that call returns a result, and otherwise with [`decode`]. The result is
+/// always the result of [`decode`].
 pub fn decode_either(source: &[u8], dest: &mut [u8]) -> Result<DecodeReport, DecodeError>
     ensures returned { result ≡ result_of_decode source.now (length dest.old) }
     ensures buffer { dest.new ≡ overwritten dest.old (first_output source.now) }
@@ -65,8 +65,8 @@ pub fn decode_either(source: &[u8], dest: &mut [u8]) -> Result<DecodeReport, Dec
     }
 }
 
-/// Decodes a short frame with [`decode_short_in_place`], and any other frame with [`decode_in_place_report`]. The
-/// result is always the result of [`decode_in_place_report`].
+/// Decodes the buffer with [`decode_short_in_place`] if that call returns a result, and otherwise with
+/// [`decode_in_place_report`]. The result is always the result of [`decode_in_place_report`].
 pub fn decode_either_in_place(buffer: &mut [u8]) -> Result<DecodeReport, DecodeError>
     ensures returned { result ≡ in_place_report buffer.old }
     ensures buffer { buffer.new ≡ in_place buffer.old }
@@ -78,7 +78,7 @@ pub fn decode_either_in_place(buffer: &mut [u8]) -> Result<DecodeReport, DecodeE
 }
 
 /// Decodes a piece of 2 to 65 nonzero bytes, which may be broken. Returns true, because [`decode_short`] returns a
-/// result for each such piece.
+/// result for each such piece if `dest` is at most one byte shorter than the piece.
 pub fn decode_known_short(frame: &[u8], dest: &mut [u8]) -> bool
     requires nonzero { HasNoZero frame.now }
     requires few { (2 ≤ length frame.now) × (length frame.now ≤ 65) }
@@ -109,7 +109,7 @@ pub fn decode_known_short_in_place(frame: &mut [u8]) -> bool
     decode_short_in_place(frame).is_some()
 }
 
-/// Decodes the bytes before the buffer's first zero, in place and without vectors.
+/// Decodes the bytes before the buffer's first zero, in place and without vector instructions.
 pub fn decode_before_zero(buffer: &mut [u8]) -> Result<usize, DecodeError>
     ensures returned { result ≡ head_result (head buffer.old) }
     ensures buffer { buffer.new ≡ in_place buffer.old }
@@ -120,7 +120,7 @@ pub fn decode_before_zero(buffer: &mut [u8]) -> Result<usize, DecodeError>
 }
 
 /// Decodes the first piece of the source, and returns the bytes after the piece and its zero. The piece needn't be a
-/// frame.
+/// frame. If the source has no piece, returns no bytes.
 pub fn decode_first<'a>(source: &'a [u8], dest: &mut [u8]) -> &'a [u8]
     ensures rest { (p : List ℕ) → first_piece source.now ≡ Some p
         → result.now ≡ drop (len_through_piece source.now p) source.now }
@@ -426,8 +426,8 @@ pub fn are_same_reports(first: &DecodeReport, second: &DecodeReport) -> bool
     first == second
 }
 
-/// Returns whether two errors are equal. They are equal exactly if they are the same variant with the same number of
-/// bytes.
+/// Returns whether two errors are equal. They are equal exactly if they are the same variant and, if the variant has
+/// the field `decoded_bytes`, have the same value in this field.
 pub fn are_same_errors(first: &DecodeError, second: &DecodeError) -> bool
     ensures { IsTrue result ↔ (first.now ≡ second.now) }
 {

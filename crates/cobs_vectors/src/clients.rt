@@ -1,5 +1,5 @@
-//! Callers as in a user's own crate: a handler of one byte, a loop over a stream, a reader of frames, a round trip, and
-//! a log. Their contracts are proved only from the public clauses of `cobs`.
+//! Callers as in a user's own crate: among others, a handler of one byte, a loop over a stream, a reader of frames, a
+//! round trip, and a log. Their contracts are proved only from the public clauses of `cobs`.
 ghost use Rattle.std.specs.Prelude.{◌≡◌, ◌≢◌, ◌≤◌, ◌<◌, ◌^◌, ◌↔◌, ◌∷◌, ◌++◌, [], length, take, drop, List, ℕ, IfOk, IfSome, IsOk, OnOk, IsSomeAnd, IsTrue, Some};
 ghost use Rattle.cobs.specs.Feed.{DecoderAfter, Idle, Overlong};
 ghost use Rattle.cobs.specs.Table.{state_in};

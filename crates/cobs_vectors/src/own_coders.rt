@@ -109,7 +109,8 @@ pub fn encode_by_byte(message: &[u8], dest: &mut [u8]) -> usize
     let mut index = 0;
     let mut code = 1u8;
     let mut full = false;
-    // Each byte is one of the three steps of `law_16`: a zero closes the open block, a byte joins it, or a byte fills it.
+    // Each byte is one of the three steps of `law_16`: a zero closes the open block, and a nonzero byte joins the block
+    // or fills it.
     'by_byte: for byte in message {
         let next = index + code as usize;
         if *byte == 0 {
@@ -221,7 +222,8 @@ pub fn kind_by_code(piece: &[u8]) -> FrameKind
     }
 }
 
-/// Decodes a piece from code to code. Returns whether it is whole, and its output without the bytes of a broken block.
+/// Decodes a piece from code to code. Returns whether it is whole, and its kept output: the output without the bytes of
+/// an incomplete last part.
 pub fn decode_by_code(alloc: Global, piece: &[u8]) -> Result<(bool, Vec<u8>), AllocError>
     requires { IsPiece piece.now }
     ensures whole { IfOk result (λ found. found.0 ≡ is_whole piece.now) }

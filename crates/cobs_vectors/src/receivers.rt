@@ -1,5 +1,6 @@
-//! Receivers that accept frames and nothing else, one for each way of passing the bytes to a decoder. Their contracts
-//! are proved only from the public clauses of `cobs`.
+//! Receivers, for each way of passing the bytes to a decoder. Most of them accept frames and nothing else; `end_of` and
+//! `salvage` also report what other pieces decode to. Their contracts are proved only from the public clauses of
+//! `cobs`.
 ghost use Rattle.std.specs.Prelude.{◌≡◌, ◌≢◌, ◌≤◌, ◌<◌, ◌↔◌, ◌∷◌, ◌++◌, [], All, length, take, List, ℕ, IfOk, IfSome, IsSomeAnd, IsTrue};
 ghost use Rattle.cobs.specs.Feed.{DecoderAfter, Idle};
 ghost use Rattle.cobs.specs.FeedPiece.{outcome_at};

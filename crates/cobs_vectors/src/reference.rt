@@ -1,9 +1,9 @@
 //! A plain implementation of the format. Tests compare the library with it.
 use std::alloc::{AllocError, Global};
 
-/// Returns the encoded frame of a message. Each run of nonzero bytes is cut into blocks of up to 254 bytes. A block
-/// with fewer bytes ends the run, and implies the zero after it. No zero follows the last run, so the frame may end
-/// with a full block.
+/// Returns the encoded frame of a message. Each run of nonzero bytes is cut into blocks, each with up to 254 of these
+/// bytes. A block with fewer bytes ends the run, and implies the zero after it. No zero follows the last run, so the
+/// frame may end with a full block.
 pub fn frame_of(alloc: Global, message: &[u8]) -> Result<Vec<u8>, AllocError> {
     let mut frame = Vec::new(alloc);
     let mut block = Vec::new(alloc);
@@ -25,7 +25,7 @@ pub fn frame_of(alloc: Global, message: &[u8]) -> Result<Vec<u8>, AllocError> {
     Ok(frame)
 }
 
-/// Appends a block: its code, which is the number of the block's bytes plus 1, and then the bytes.
+/// Appends a block: its code, which is the number of these bytes plus 1, and then the bytes.
 fn append_block(frame: &mut Vec<u8>, block: &[u8]) -> Result<(), AllocError> {
     // The code is written last, over this byte.
     frame.push(1)?;
@@ -46,7 +46,7 @@ pub struct Reading {
     pub output: Vec<u8>,
 
     /// The number of bytes of the output that are kept: all bytes or, if the last block breaks off, only the bytes
-    /// before it.
+    /// before those of the last block.
     pub kept: usize,
 
     /// Whether the last block has as many bytes as its code says.
@@ -60,6 +60,7 @@ pub fn reading_of(alloc: Global, piece: &[u8]) -> Result<Reading, AllocError> {
     let mut is_whole = false;
     let mut joint = false;
     let mut rest = piece;
+    // Each block has at least one byte, so the list has at most as many blocks as bytes.
     for _ in piece {
         let Some((code, behind)) = rest.split_first() else {
             break;

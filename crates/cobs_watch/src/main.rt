@@ -11,11 +11,11 @@
 //! output; `cobs_watch --help` lists them. `cobs_watch send` reads lines, and sends each line as a frame, followed by
 //! the sentinel.
 //!
-//! At the end of the input, the program prints `unfinished` if a piece has begun and no sentinel has ended it. It then
-//! exits with the status 0, or with 1 if `cobs_watch send` skipped a line that wasn't hexadecimal digits. If a read or
-//! a write failed or memory ran out, the status is 1, and a line on standard error says so. If the arguments are wrong,
-//! the status is 2, and standard error has the usage. If nobody reads the output any more, the program ends with status
-//! 0.
+//! At the end of the input, the program prints `unfinished` if a piece has begun and no sentinel has ended it. When the
+//! input has ended, the exit status is 0, or 1 if `cobs_watch send` skipped a line that couldn't be read as hexadecimal
+//! digits. If a read or a write failed, or if memory ran out, the status is 1, and a line on standard error says so. If
+//! the arguments are wrong, the status is 2, and standard error has the usage. If nobody reads the output any more, the
+//! program ends with status 0.
 #![tactic(auto)]
 
 ghost use Rattle.std.specs.Prelude.{◌≡◌, [], OnOk};
@@ -50,8 +50,8 @@ const OUTPUT_LEN: usize = 131_072;
 /// The system's error number of the last read or write that failed, if there is one.
 type Reason = Cell<Option<i32>>;
 
-/// The reasons why `show` failed, as the system's error numbers. The line on standard error has the system's text for
-/// such a number.
+/// The reasons why `show` failed, as the system's error numbers. The line that the program writes to standard error
+/// contains the system's text for such a number.
 #[derive(Drop)]
 struct Reasons {
     /// The last error of the input or of standard output.
@@ -325,8 +325,8 @@ fn not_opened(rt: &HostRuntime, path: &str, error: &io::Error) -> ExitCode {
     ExitCode::FAILURE
 }
 
-/// Reports a fault of `show`, and returns the exit status. If the log couldn't be written, or the file at the path
-/// couldn't be read, the report names that file.
+/// Reports a fault of `show`, and returns the exit status. If the log couldn't be written, the report names the log. If
+/// the file at the path couldn't be read, the report names that file.
 fn show_faulted(
     rt: &HostRuntime,
     task: &ShowTask<'_>,

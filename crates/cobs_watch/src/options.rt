@@ -40,7 +40,7 @@ pub(crate) struct ShowTask<'a> {
     /// Whether dates are in the system's time zone.
     pub(crate) local: bool,
 
-    /// The path of the file that is shown. Standard input has no path (`None`) or the path `-`.
+    /// The path of the file that is shown. For standard input, this is `None` or `-`.
     pub(crate) path: Option<&'a str>,
 
     /// Whether the file is opened again after a hang-up.
@@ -75,8 +75,8 @@ pub(crate) fn task_of<'a>(
     let command = with_show_options(alloc, Command::new(alloc, "cobs_watch"))?
         .about("Watch COBS frames on a live line")
         .version(VERSION)
-        // Without a subcommand, the program runs `show`. An option before a subcommand is an error, because it would be
-        // ignored.
+        // Without a subcommand, the program runs `show`. An option before a subcommand is an error, because it would
+        // otherwise be ignored.
         .args_conflicts_with_subcommands(true)
         .subcommand(show)?
         .subcommand(send)?;
@@ -128,8 +128,8 @@ fn with_show_options<'a>(alloc: Global, command: Command<'a>) -> Result<Command<
     Ok(with_line(alloc, command)?.after_help(help::SHOW_EXAMPLES))
 }
 
-/// Adds the options for styles to the command. `json` excludes `number`, because the JSON object of each piece that has
-/// ended has the number of this piece.
+/// Adds the options for styles to the command. `json` excludes `number`, because the JSON object of a piece that has
+/// ended always contains the piece's number.
 fn with_styles<'a>(alloc: Global, command: Command<'a>) -> Result<Command<'a>, Error> {
     let hexdump = style(alloc, "hexdump")?.short('x');
     let json = style(alloc, "json")?.short('j').conflicts_with("number")?;
@@ -238,7 +238,7 @@ fn color_of(alloc: Global, matches: &ArgMatches<'_>, auto_color: bool) -> Result
 /// Returns whether the file is opened again after a hang-up.
 ///
 /// # Errors
-/// Returns an error for the path `-`, because standard input can't be opened again.
+/// Returns an error if `--reconnect` is given with the path `-`, because standard input can't be opened again.
 fn reconnect_of(alloc: Global, matches: &ArgMatches<'_>) -> Result<bool, Error> {
     if matches.get_flag("reconnect") && matches.get_str("path") == Some(STDIN) {
         return wrong(

@@ -19,7 +19,7 @@ pub(crate) fn wrong<T>(alloc: Global, message: &str) -> Result<T, Error>
 /// option isn't given.
 ///
 /// # Errors
-/// Returns an error that names the option if the value isn't a number, or if the number is above `max`.
+/// If the value isn't a number, or if the number is above `max`, returns an error that names the option.
 pub(crate) fn number_of(
     alloc: Global,
     matches: &ArgMatches<'_>,
@@ -129,7 +129,7 @@ impl Written {
     }
 }
 
-/// Returns the parameters of a checksum. The text is the name of the checksum, or lists its parameters, as in
+/// Returns the parameters of a checksum. The text is the name of the checksum, or a list of its parameters, such as
 /// `poly=0x1021,init=0xffff`.
 fn params_of(alloc: Global, text: &str) -> Result<Params, Error>
     ensures sized { IfOk result (λ params. (0 < params.size) × (params.size ≤ 4)) }
@@ -175,7 +175,8 @@ fn sized(written: &Written) -> Option<Params>
         32 => 4,
         _ => return None,
     };
-    // A register has 32 bits. `Params` has the polynomial and the initial value in the highest bits of the register.
+    // A register has 32 bits. In `Params`, the polynomial and the initial value are shifted to the high bits of the
+    // register.
     let spare = 32 - 8 * size;
     let poly = u32::try_from(written.poly.unwrap_or(0)).ok()?;
     let init = u32::try_from(written.init.unwrap_or(0)).ok()?;
@@ -196,8 +197,8 @@ fn sized(written: &Written) -> Option<Params>
 /// Returns the filter that `--only`, `--min`, `--max` and `--prefix` ask for.
 ///
 /// # Errors
-/// Returns an error if the value of `--prefix` isn't pairs of hexadecimal digits, if the value of `--min` or `--max`
-/// isn't a number, or if `--min` is above `--max`.
+/// Returns an error if the value of `--prefix` doesn't consist of pairs of hexadecimal digits, if the value of `--min`
+/// or `--max` isn't a number, or if `--min` is above `--max`.
 pub(crate) fn filter_of(alloc: Global, matches: &ArgMatches<'_>) -> Result<Filter, Error> {
     let kinds = matches.get_strs("only").unwrap_or(&[]);
     let prefix = matches.get_str("prefix").unwrap_or("");

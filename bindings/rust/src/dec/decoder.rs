@@ -1,4 +1,4 @@
-//! Three streaming decoders. They decode the frames of a stream to messages, one frame after another.
+//! Defines three streaming decoders. They decode the frames of a stream to messages, one frame after another.
 //!
 //! The three decoders differ in who owns the buffer.
 
@@ -20,7 +20,7 @@ impl Progress {
         parsed_size: 0,
     };
 
-    // This function is inlined, so that a loop of pushes of one byte becomes a loop of `feed`.
+    // This function is inlined, so that a loop that pushes one byte at a time becomes a loop that calls `feed`.
     #[inline(always)]
     fn push(&mut self, dest: &mut [u8], data: &[u8]) -> Result<Option<DecodeReport>, DecodeError> {
         match *data {
@@ -98,11 +98,11 @@ macro_rules! decoder_methods {
         ///   and including the zero that ends the frame.
         /// - [`DecodeError::TargetBufTooSmall`]: the message is longer than the buffer. The push that contains the
         ///   first byte that doesn't fit returns this error. So does each later push that isn't empty, up to and
-        ///   including the push that contains the zero that ends the frame. The push with this zero consumes its bytes
-        ///   up to and including the zero; each earlier push consumes all its bytes.
+        ///   including the push that contains the zero that ends the frame. The push that contains this zero consumes
+        ///   the bytes up to and including the zero. Each earlier push consumes all its bytes.
         ///
-        /// After an error, continue with the bytes from [`parsed_size`](Self::parsed_size) on. Then a broken frame
-        /// never affects another frame.
+        /// After an error, continue with the bytes from index [`parsed_size`](Self::parsed_size) on. If you do, a
+        /// broken frame never affects another frame.
         #[inline]
         pub fn push(&mut self, data: &[u8]) -> Result<Option<DecodeReport>, DecodeError> {
             self.progress.push(&mut self.dest[..], data)

@@ -37,9 +37,9 @@ impl<'a> CobsEncoder<'a> {
     ///
     /// # Errors
     ///
-    /// Returns [`DestBufTooSmallError`] exactly if the frame of the message so far, including these bytes, doesn't fit
-    /// the slice. Then nothing has changed: the caller can end the message without these bytes, or can push fewer
-    /// bytes.
+    /// Returns [`DestBufTooSmallError`] if and only if the frame of the message so far, including these bytes, doesn't
+    /// fit the slice. In that case nothing has changed: the caller can end the message without these bytes, or push
+    /// fewer bytes.
     #[inline]
     pub fn push(&mut self, data: &[u8]) -> Result<(), DestBufTooSmallError> {
         self.encoder.push(self.dest, data)

@@ -1,7 +1,7 @@
 // Made by bindings/rust/translate.py from `crates/cobs/src/block.rt`: change that file, and run it again.
 //! Constants for blocks, shared by the encoders and the decoders.
 
-/// The code of a full block, that is, the number of bytes that the block has, including the code.
+/// The code of a full block, which is also the number of bytes in the block, including the code.
 pub(crate) const FULL_CODE: usize = 255;
 
 /// The code of a full block, as a byte.

@@ -1,8 +1,8 @@
 // Made by bindings/rust/translate.py from `crates/cobs/src/error.rt`: change that file, and run it again.
 //! Errors, and the report about a decoded message.
 
-/// The error of an encoder: the frame is longer than the slice to which it should be written, or the encoder's state
-/// isn't possible in a slice of this length.
+/// The error of an encoder. Either the frame is longer than the slice to which it should be written, or the encoder's
+/// state isn't possible in a slice of that length.
 ///
 /// ```
 /// use jcobs::DestBufTooSmallError;
@@ -25,7 +25,7 @@ impl core::fmt::Display for DestBufTooSmallError {
 
 impl core::error::Error for DestBufTooSmallError {}
 
-/// The reason why a frame is rejected. The names of the variants are those of the Rust crate `cobs`.
+/// The reason why a frame is rejected. The variants have the same names as in the Rust crate `cobs`.
 ///
 /// ```
 /// use jcobs::{DecodeError, decode};
@@ -69,7 +69,7 @@ impl core::error::Error for DecodeError {}
 
 /// The error of a `push` to a streaming decoder, with the number of bytes that were consumed.
 ///
-/// The decoder has consumed the first `parsed_size` of the pushed bytes. To continue, the caller pushes the bytes that
+/// The decoder has consumed the first `parsed_size` bytes of the push. To continue, the caller pushes the bytes that
 /// weren't consumed.
 ///
 /// ```
@@ -105,7 +105,7 @@ impl core::fmt::Display for PushError {
 impl core::error::Error for PushError {}
 
 /// A report about a decoded message: how many bytes of the source were consumed, and how many bytes the message has.
-/// The names of the methods are those of the Rust crate `cobs`.
+/// The methods have the same names as in the Rust crate `cobs`.
 ///
 /// ```
 /// use jcobs::decode;
@@ -125,7 +125,7 @@ pub struct DecodeReport {
 
 impl DecodeReport {
     /// Returns how many bytes of the source were consumed. The documentation of the call that made the report says
-    /// whether leading sentinels, and the sentinel after the frame, are counted.
+    /// whether this number includes leading sentinels and the sentinel after the frame.
     ///
     /// ```
     /// use jcobs::decode;

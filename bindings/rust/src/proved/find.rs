@@ -1,5 +1,5 @@
 // Made by bindings/rust/translate.py from `crates/cobs/src/find.rt`: change that file, and run it again.
-//! Searches for the beginning and the end of pieces.
+//! Functions that find where a piece begins and where it ends.
 
 use crate::proved::cobs_bytes::window::{WIDE_WINDOW, WINDOW, first_zero, has_vectors, zeros_at};
 use memchr::memchr;
@@ -22,8 +22,8 @@ pub(crate) fn position_or_len(source: &[u8], byte: u8) -> usize {
 /// Returns how many bytes come before the first zero, or the length of `bytes` if there is no zero. The function is
 /// small, because it uses no SIMD vectors.
 // This function isn't inlined, so that its loops can use all registers of a small processor. The loops advance the
-// address of the remaining bytes, so that no address is computed from an index. With four bytes per iteration, a byte
-// costs half as many instructions as with one byte per iteration.
+// address of the remaining bytes, so they don't compute an address from an index. A loop that tests four bytes per
+// iteration needs half as many instructions per byte as a loop that tests one.
 #[inline(never)]
 pub fn len_to_zero(bytes: &[u8]) -> usize {
     let mut rest = bytes;
@@ -90,7 +90,8 @@ pub(crate) fn front_len(source: &[u8]) -> usize {
     if later != 0 {
         return at + later.trailing_zeros() as usize;
     }
-    // If the message of the frame has 63 or 64 bytes, the zero after the frame is at one of the next two indices.
+    // If the message of the frame has 63 bytes, the zero after the frame is at index 64. If the message has 64 bytes,
+    // this zero is at index 65.
     if WIDE_WINDOW < source.len() && source[WIDE_WINDOW] == 0 {
         return WIDE_WINDOW;
     }

@@ -12,7 +12,7 @@ use crate::proved::dec::{FrameDecoder, PieceEnd};
 #[cfg(feature = "std")]
 use std::io::Read;
 
-/// The result of a call of [`next_frame`](FrameReader::next_frame) that didn't fail.
+/// The result of a successful call of [`next_frame`](FrameReader::next_frame).
 ///
 /// ```
 /// # #[cfg(feature = "std")] {
@@ -27,15 +27,15 @@ use std::io::Read;
 #[cfg_attr(feature = "serde", derive(serde::Serialize, serde::Deserialize))]
 #[cfg_attr(feature = "defmt", derive(defmt::Format))]
 pub enum Next {
-    /// A piece ended, and it is a frame whose message has this many bytes. The message is at the front of the decoder's
+    /// A piece ended. It is a frame whose message has this many bytes. The message is at the front of the decoder's
     /// buffer.
     Message(usize),
 
-    /// A piece ended, and it breaks off inside a block. The piece decodes to this many bytes, including those of the
-    /// broken block. The decoded bytes are at the front of the decoder's buffer.
+    /// A piece ended. It breaks off inside a block, and decodes to this many bytes, including those of the broken
+    /// block. The decoded bytes are at the front of the decoder's buffer.
     Broken(usize),
 
-    /// A piece ended, and it decodes to more bytes than the decoder's buffer has room for.
+    /// A piece ended. It decodes to more bytes than the decoder's buffer has room for.
     TooLong,
 
     /// The source returned no more bytes, and no piece ended.
@@ -109,8 +109,8 @@ pub trait FrameSource {
     fn read_some(&mut self, chunk: &mut [u8; 64]) -> Option<usize>;
 }
 
-/// A source that gets its bytes from any `Read`. Each call of `read_some` makes one read, and each error of the `Read`
-/// counts as a failed read.
+/// A source that gets its bytes from a reader of any type that implements `Read`. Each call of `read_some` makes one
+/// read, and each error of the reader counts as a failed read.
 ///
 /// ```
 /// # #[cfg(feature = "std")] {
@@ -179,8 +179,7 @@ fn next_at(end: PieceEnd) -> Next {
     }
 }
 
-/// Returns whether a piece is unfinished after these bytes. `before` says whether a piece was unfinished before these
-/// bytes.
+/// Returns whether a piece is unfinished after `bytes`. `before` says whether a piece was unfinished before `bytes`.
 fn is_unfinished(before: bool, bytes: &[u8]) -> bool {
     match bytes {
         [] => before,
@@ -217,8 +216,8 @@ pub struct FrameReader<D: FrameDecoder> {
     start: usize,
     end: usize,
 
-    /// Whether a piece has begun and hasn't ended yet. If bytes have been fed, this is true exactly if the last of them
-    /// isn't a zero.
+    /// Whether a piece has begun and hasn't ended yet. Once a byte has been fed, this is true if and only if the last
+    /// byte that was fed isn't a zero.
     unfinished: bool,
 }
 
@@ -280,8 +279,8 @@ impl<D: FrameDecoder> FrameReader<D> {
     /// `Next::End` if the source ends before such a zero.
     ///
     /// The call first uses the bytes that earlier calls have kept. If no piece ends in these bytes, the call makes up
-    /// to 65,536 reads from the source. The call stops after the first read that returned the end of a piece, that
-    /// failed, or that returned no bytes. The bytes after the end of the piece are kept for the next call. After
+    /// to 65,536 reads from the source. The call stops after the first read that fails, that returns no bytes, or that
+    /// returns the zero at the end of a piece. The bytes after the end of the piece are kept for the next call. After
     /// `Next::End` the stream may continue, in this source or in another one.
     ///
     /// # Errors

@@ -33,8 +33,8 @@ pub use stream::{FrameOutcome, decode_stream};
 ///
 /// The greatest overhead is `source_len / 254`, rounded up, or 1 if the message is empty. A message without zeros has
 /// this overhead, because its frame has one code for every 254 bytes, and one code for the remaining bytes, if any. The
-/// frame of the empty message has one code. Sentinels before and after the frame aren't counted. The bound is that of
-/// the paper by Cheshire and Baker.
+/// frame of the empty message has one code. Sentinels before and after the frame aren't counted. The bound is from the
+/// paper by Cheshire and Baker.
 pub const fn max_encoding_overhead(source_len: usize) -> usize {
     if source_len == 0 {
         return 1;

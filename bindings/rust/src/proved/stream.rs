@@ -3,10 +3,10 @@
 //! `encode_frames` encodes several messages.
 //!
 //! A stream is cut at its zeros. A piece consists of the bytes between two neighbouring zeros, or before the first
-//! zero. It has at least one byte. There are three outcomes: a piece is a frame, breaks off inside a block, or decodes
-//! to more bytes than the buffer has room for. Each piece is decoded separately, so damage to one piece has no effect
-//! after the next zero. (The rule that a zero ends each frame is from Cheshire and Baker's paper. The outcomes of
-//! pieces that are broken or too long are a choice of this library.)
+//! zero. It has at least one byte. There are three outcomes: the piece is a frame, it breaks off inside a block, or it
+//! decodes to more bytes than the buffer has room for. Each piece is decoded separately, so damage to one piece has no
+//! effect after the next zero. (The rule that a zero ends each frame is from Cheshire and Baker's paper. The outcomes
+//! of pieces that are broken or too long are a choice of this library.)
 
 use crate::memory::AllocError;
 use crate::proved::dec::{FrameDecoder, PieceEnd};
@@ -31,7 +31,7 @@ use alloc::vec::Vec;
 #[cfg_attr(feature = "serde", derive(serde::Serialize, serde::Deserialize))]
 #[cfg_attr(feature = "defmt", derive(defmt::Format))]
 pub enum FrameOutcome {
-    /// The piece is a frame, and its message has these bytes.
+    /// The piece is a frame, and this vector contains the message.
     Message(Vec<u8>),
 
     /// The piece breaks off inside a block. The piece decodes to this many bytes, including those of the broken block.
@@ -41,7 +41,7 @@ pub enum FrameOutcome {
     TooLong,
 }
 
-/// Returns the outcome of a piece. `end` says how the piece ended, and `buffer` contains its output.
+/// Returns the outcome of a piece. `end` says how the piece ended, and `buffer` begins with the piece's output.
 #[cfg(feature = "alloc")]
 fn frame_outcome(end: PieceEnd, buffer: &[u8]) -> Result<FrameOutcome, AllocError> {
     match end {

@@ -1,6 +1,7 @@
--- The bytes of a list before its first zero (`front_is_head`), by std's lemmas on the first place that passes a test
--- (`head-is`), and the first piece after its leading zeros (`first_piece_some`): by `first_piece_head` for a list that
--- begins with a code.
+-- The bytes of a list before its first zero (`front_is_head`), by `head-is` of `OutcomeLemmas` and by std's lemmas on
+-- the first place that passes a test. Then the first piece of a list: it begins after the leading zeros
+-- (`first_piece_some`). This is by `first_piece_head` of `OutcomeLemmas`, which is about a list that begins with a
+-- nonzero byte.
 use Rattle.std.proofs.Common.{◌≡◌, ◌≢◌, ℕ, zero, suc, ◌+◌, ◌-◌, ◌<◌, ◌≤◌, List, [], ◌∷◌, ◌++◌, length, take, drop, get_or, Some, None, refl, sym, ap, ◌∙◌, ◌==◌, false, arith, inl, inr, length-drop, length-take}
 use Rattle.std.proofs.lemmas.Bool.{cases_lt, ne_eqb, eq-eqb, eqb-true}
 use Rattle.std.proofs.lemmas.List.{drop_more, get_or-take, get_or-drop, take-append-drop}
@@ -21,7 +22,7 @@ front_is_head t n within none stop =
     let is : position_or_len (λ b. b == 0) t ≡ n = position_or_len_is (λ b. b == 0) t n 0 within before (λ more. eq-eqb _ 0 (stop more)) in
     rw (head-is t, is) refl
 
--- a front with as many bytes as are before the first zero
+-- the front of t that has as many bytes as come before the first zero consists of these bytes
 pub head-front : (t : List ℕ) → take (length (head t)) t ≡ head t
 head-front t = rw (length-head-is t) (sym (head-is t))
 
@@ -41,7 +42,7 @@ head-most t i more found = grind (arith, length-head-is, fails_before_first, cas
 -- first zero.
 pub short_head : (t : List ℕ) (n : ℕ) → length t ≤ length (head t) + 1 → n ≤ length t → length t ≤ n + 1 → 0 < length t → (n < length t → get_or t n 0 ≡ 0) → (n ≡ length t → get_or t (n - 1) 0 ≢ 0) → n ≡ length (head t)
 short_head t n few within last some stop other = elim (cases_lt n (length t)) [
-  -- n bytes and a zero: at most n bytes are before the first zero, and `few` says that it is at least n
+  -- t is n bytes and a zero: at most n bytes are before the first zero, and `few` says that at least n bytes are
   | inl less ↦ omega (arith, head-most t n less (stop less))
   | inr all ↦ elim (cases_lt (length (head t)) (length t)) [
     -- t would end in its first zero, but its last byte isn't a zero (`other`)
@@ -51,7 +52,7 @@ short_head t n few within last some stop other = elim (cases_lt n (length t)) [
   ]
 ]
 
--- a list that begins with a code has a byte before its first zero
+-- a list that begins with a nonzero byte has a byte before its first zero
 pub head_some : (t : List ℕ) → 0 < length t → get_or t 0 0 ≢ 0 → 0 < length (head t)
 head_some [] some other = grind arith
 head_some (byte ∷ t) some other = grind (arith, head-cons)

@@ -1,6 +1,7 @@
--- The decoders of a whole list report the outcome of the list's first piece (`Reported`), so they return the message m
--- exactly if the list reads as m (`outcome_message`). The clauses of `decode`, `decode_with_sentinel` and
--- `decode_in_place_report` follow: `decode_clauses`, `source_clauses` and `in_place_clauses`.
+-- If the list that is passed to `decode`, `decode_with_sentinel` or `decode_in_place_report` is a piece, the call
+-- reports the outcome of this piece (`Reported`). So it returns the message m exactly if the piece is a frame of m that
+-- fits the buffer (`returns-reads`, by `outcome_message` of `OutcomeLemmas`). The clauses of these three calls follow:
+-- `decode_clauses`, `source_clauses` and `in_place_clauses`.
 use Rattle.std.proofs.Common.{◌≡◌, ◌≢◌, ℕ, ◌<◌, ◌≤◌, ◌↔◌, ◌⊎◌, inl, inr, false, List, [], ◌∷◌, length, take, All, Result, Ok, Err, refl, sym, ap, ◌∙◌, arith, get_or, Fits, w8}
 use Rattle.std.specs.Prelude.{IfErr}
 use Rattle.std.proofs.lemmas.Bool.{cases_Bool, cases_lt}
@@ -119,7 +120,8 @@ source-reported : (f buffer buffer' : List ℕ) (outcome : Outcome) → outcome_
     → buffer' ≡ overwritten buffer (kept_output f) → Reported outcome (head_result_within f (length buffer)) buffer'
 source-reported f buffer buffer' (Message m) e some is =
     let (fits, whole, same) = outcome_says f (length buffer) e in
-    -- the piece is whole, so its whole output is kept, which fits: the result has no need of `TargetBufTooSmall`
+    -- the piece is whole, so its whole output is kept, and it fits: the result isn't `TargetBufTooSmall`
+    -- (`result-fits`)
     let kept = all-kept f whole in
     (sym (result-fits f _ (omega (arith, ap length kept))) ∙ (grind arith), rw (is, kept, same) (overwritten-begins buffer (output f) fits))
 source-reported f buffer buffer' (Broken count) e some is = within-rejected f (length buffer) some (inl (outcome_says f (length buffer) e).1)

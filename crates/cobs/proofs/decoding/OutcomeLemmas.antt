@@ -1,7 +1,8 @@
--- The outcome of a piece follows from its output's length and from whether it is whole (`outcome_of_whole` and the
--- lemmas after it), and says as much of the piece (`outcome_says`): so it is `Message m` exactly if the piece is a
--- frame of m that fits (`outcome_message`). The first piece of a stream is the bytes before its first zero: std's
--- `take_while`.
+-- The outcome of a piece follows from its output's length and from whether the piece is whole (`outcome_of_whole` and
+-- the lemmas after it). Conversely, the outcome says both facts about the piece (`outcome_says`). So it is `Message m`
+-- exactly if the piece is a frame of m that fits (`outcome_message`). Then the file is about the bytes of a list before
+-- its first zero, which std's `take_while` also gives (`head-is`). If the list begins with a nonzero byte, these bytes
+-- are its first piece (`first_piece_head`).
 use Rattle.std.proofs.Common.{◌≡◌, ◌≢◌, ℕ, ◌<◌, ◌≤◌, ◌↔◌, List, [], ◌∷◌, ◌++◌, length, All, Some, refl, ap, arith, length-append, length-drop, length-take, false, not, ◌==◌, inl, inr}
 use Rattle.std.specs.List.{position_or_len, take_while}
 use Rattle.std.proofs.lemmas.Bool.{cases_eq, ne_eqb, eq-eqb, leb-true, leb-false}

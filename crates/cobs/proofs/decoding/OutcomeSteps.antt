@@ -1,5 +1,7 @@
--- The result of `decode` (`answer-by`) follows from the two numbers that a decoder counts (`result-by`): the output's
--- length, and the number of missing bytes of the last part. By `outcome_of_none_missing` and `outcome_of_some_missing`.
+-- The result of `decode` (`answer-by`) follows from the outcome of the source's first piece. The result for this
+-- outcome follows from two numbers that a decoder counts: the output's length, and the number of missing bytes of the
+-- last part (`result-by`, by `outcome_of_none_missing` and `outcome_of_some_missing` of `OutcomeLemmas`). The file also
+-- has lemmas on the buffer after a call (`overwritten-front`) and on the report of `decode_in_place_report`.
 use Rattle.std.proofs.Common.{◌≡◌, ℕ, ◌+◌, ◌<◌, ◌≤◌, false, IsTrue, eqb, List, [], ◌∷◌, length, take, drop, min, Option, None, Some, Result, Ok, Err, arith, length-take-le, take-append-drop, take_all}
 use Rattle.std.specs.Prelude.{IfOk}
 use Rattle.std.proofs.lemmas.Bool.{ne_eqb, eq-eqb}
@@ -44,7 +46,7 @@ pub result-by : (p : List ℕ) (n k left : ℕ) (r : Result ℕ DecodeError) →
     → (IsTrue (eqb left 0) → r ≡ Ok k) → (eqb left 0 ≡ false → r ≡ Err (InvalidFrame k)) → r ≡ outcome_result (outcome_of p n)
 result-by p n k left r some fits count is whole broken = grind (arith, eq-eqb, ne_eqb, outcome_of_none_missing, outcome_of_some_missing)
 
--- a fact P that holds for every result also holds if the result is an `Ok`
+-- a fact P that holds, whatever the result r is, also holds if r is an `Ok`
 pub always : {P : Type 0} (r : Result ℕ DecodeError) → P → IfOk r (λ size. P)
 always r p = grind arith
 

@@ -76,7 +76,7 @@ missing-push_more p b h = grind (arith, last_part-push_more, length_push)
 pub is_full-push_more : (p : List ℕ) (b : ℕ) → 0 < missing (last_part p) → is_full (last_part (p ++ b ∷ [])) ≡ is_full (last_part p)
 is_full-push_more p b h = grind (arith, last_part-push_more)
 
--- a piece ends in a part that is full or not, and of which this many bytes are missing
+-- `full` says whether the last part of the piece p is full, and `left` bytes of this part are missing
 abbrev pub EndsIn : List ℕ → Bool → ℕ → Type 0
 EndsIn p full left = (is_full (last_part p) ≡ full) × (missing (last_part p) ≡ left)
 

@@ -1,4 +1,4 @@
--- A frame is a piece: it isn't empty and has no zero, by `frame_nonzero`.
+-- A frame is a piece: it isn't empty and has no zero, by `reads_only` of `OutcomeLemmas`.
 use Rattle.std.proofs.Common.{ℕ, List}
 use Rattle.cobs.specs.Grammar.{Reads}
 use Rattle.cobs.specs.Headline.{IsPiece}

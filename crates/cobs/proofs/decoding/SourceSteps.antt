@@ -1,5 +1,6 @@
--- A source for any sentinel is a source for 0 once each byte is XORed with it: the bytes before its first sentinel, and
--- the result for that, by `coded_nonzero`.
+-- If each byte of a source is XORed with its sentinel, the bytes before the first sentinel become the bytes before the
+-- first zero (`front-head`, `xor_head`). So the result for these bytes is the result for the whole source
+-- (`result_of_sentinel_decode-head`).
 use Rattle.std.proofs.Common.{◌≡◌, ◌≢◌, ℕ, ◌<◌, ◌≤◌, All, List, [], ◌∷◌, length, take, get_or, bit_xor, Err, arith}
 use Rattle.std.specs.Int.Bits.{xor_self}
 use Rattle.std.proofs.lemmas.List.{get_or-map, length-map, take-map}

@@ -1,6 +1,6 @@
--- The kept output of a piece h is the output of all its bytes except some of the last 253 (`kept-cut`), since a broken
--- block has at most 253 bytes after its code. Proved in steps from block to block (`ends-next`), as `kept_len` makes
--- them: a block ends at a place in h if no byte of a block is missing before that place.
+-- The kept output of a piece h is the output of all its bytes except the last few, which are at most 253 (`kept-cut`),
+-- since a broken block has at most 253 bytes after its code. The proof goes from block to block (`ends-next`), as
+-- `kept_len` does: a block ends at a place in h if no byte of a block is missing before that place.
 use Rattle.std.proofs.Common.{◌≡◌, ◌≢◌, ℕ, zero, suc, All, inl, inr, length-append, refl, ◌+◌, ◌-◌, ◌<◌, ◌≤◌, List, [], ◌∷◌, ◌++◌, length, take, drop, replicate, get_or, arith, append_assoc, append-nil, take_all, take_at}
 use Rattle.std.proofs.lemmas.List.{drop_more, take_more, length-take-le, length-drop, take-append-drop}
 use Rattle.std.proofs.Math.Seq.{take-add}
@@ -22,6 +22,7 @@ record IntoLast (p xs : List ℕ) : Type 0 where
 into_last : (p xs : List ℕ) → length xs ≤ missing (last_part p) → IntoLast p xs
 into_last p [] h = grind (arith, append-nil)
 into_last p (x ∷ xs) h =
+    -- x joins the last part, so one byte fewer is missing (`m`); by induction, xs then joins it too (`again`)
     let m = missing-push_more p x (omega arith) in
     let again = into_last (p ++ x ∷ []) xs (omega arith) in
     grind (arith, append_assoc, output-push_more, last_part-push_more)
@@ -34,7 +35,7 @@ joins h at n within few =
     let l = length-take-le n (drop at h) within in
     rw (take-add at n h) (omega (arith, (into_last (take at h) (take n (drop at h)) (omega arith)).left))
 
--- THE WALK OF `kept_len`
+-- THE WALK OF `kept_len`, AND THE BYTES WHOSE OUTPUT IS THE KEPT OUTPUT
 
 -- if `left` bytes of a block are missing at the place `start`, the block ends `left` bytes later; the first block that
 -- `kept_len` steps over began before `start`
@@ -55,6 +56,8 @@ module _ (h : List ℕ) (at code : ℕ) (here : at < length h) (is : code ≡ ge
   -- if h has all bytes of the block, a block ends after them
   pub ends-next : 0 < code → at + code ≤ length h → missing (last_part (take (at + code) h)) ≡ 0
   ends-next some fits =
+      -- the block ends `code - 1` bytes after its code (`next`), and h has these bytes (`l` has the number of the bytes
+      -- after the code)
       let next : at + 1 + (code - 1) ≡ at + code = omega arith in
       let l = length-drop (at + 1) h in
       grind (arith, ends-start, front-left)
@@ -95,7 +98,7 @@ unfolding kept_output
 whole-kept [] h = grind (arith, output-empty)
 whole-kept (c ∷ p) h = grind (arith, is_whole-of, eq-eqb)
 
--- the kept output is the output of the first k bytes, which are all bytes except some of the last 253
+-- the kept output is the output of the first k bytes, and at most 253 bytes come after them
 abbrev KeptBy : List ℕ → ℕ → Type 0
 KeptBy h k = (length h ≤ k + 253) × (output (take k h) ≡ kept_output h)
 

@@ -1,5 +1,6 @@
--- The vector forms of decoding return the message m exactly if the list is a frame of m, unless memory runs out:
--- `decoded_reads` for `decode_vec`, and `decoded_head_reads` for `decode_vec_with_sentinel`. By `reads_iff`.
+-- If the list that is passed to `decode_vec` or `decode_vec_with_sentinel` is a piece, the call returns the message m
+-- exactly if the list is a frame of m, unless memory runs out. This follows from `decoded_reads` for `decode_vec`, and
+-- from `decoded_head_reads` for `decode_vec_with_sentinel`. Both lemmas are by `reads_iff` of `OutcomeLemmas`.
 use Rattle.std.proofs.Common.{arith, ◌≡◌, ℕ, ◌<◌, ◌↔◌, cond, List, [], ◌∷◌, length, All, Result, Ok, Err}
 use Rattle.cobs.specs.Grammar.{Reads}
 use Rattle.cobs.specs.Piece.{output, kept_output, is_whole}

@@ -15,7 +15,8 @@ use Rattle.cobs.proofs.decoding.OutcomeLemmas.{output_within, first_piece_head, 
 use Rattle.cobs.proofs.decoding.OutcomeSteps.{result_by_piece}
 use Rattle.cobs.proofs.decoding.SourceSteps.{result-fits}
 
--- what is known of an `Ok` value stays known of it after `map_err`, of which `cases` is a clause
+-- What is known of the value in an `Ok` (`known`) stays known of it after `map_err`: `made` is the result before
+-- `map_err`, `mapped` is the result after it, and `cases` is a clause of `map_err`.
 pub kept-ok : {A E F : Type 0} (made : Result A E) (mapped : Result A F) (x : A)
     → (Known : A → Type 0) (Told : E → F → Type 0) → IfOk made Known
     → (cases : MatchResult made (λ y. mapped ≡ Ok y) (λ e. IsErrAnd mapped (Told e))) → mapped ≡ Ok x → Known x
@@ -33,7 +34,7 @@ first_piece_within [] p is = absurd (cc)
 first_piece_within (zero ∷ t) p is = grind (arith, (first_piece_within t p is))
 first_piece_within (suc b ∷ t) p is = grind (arith, first_piece_head, length-head)
 
--- the outcome of a piece whose output has room
+-- the result for a piece whose output fits n bytes
 outcome_result-fits : (p : List ℕ) (n : ℕ) → length (output p) ≤ n → outcome_result (outcome_of p n) ≡ (if is_whole p then Ok (length (output p)) else Err (InvalidFrame (length (output p))))
 unfolding outcome_of
 outcome_result-fits p n fits = grind arith

@@ -1,8 +1,10 @@
--- Lemmas on the kept output of a piece h that is written to the front of a buffer byte by byte (`Written`). The bytes p
--- of the piece are still to be decoded (`Left`), or a block and the bytes after it are (`BlockLeft`): its bytes are
--- written first, and then a zero if it isn't full and other bytes follow it. They cut p after its first block
--- (`kept-joined`). A decoder uses `left-all` at the start, `left-block` at a code, `block-more`, `block-last` and
--- `block-zero` inside a block, and `left-none` or `left-broken` at the end.
+-- Lemmas on the kept output of a piece h that is written to the front of a buffer byte by byte (`Written`). Between two
+-- blocks, the bytes p of the piece are still to be decoded (`Left`). Inside a block, the remaining bytes of this block
+-- and the bytes after it are still to be decoded (`BlockLeft`): first the bytes of the block are written, and then a
+-- zero if the block isn't full and other bytes follow it. The lemmas cut p after its first block (`kept-joined`). A
+-- decoder uses `left-all` at the start, `left-block` at a code, `block-more`, `block-last` and `block-zero` inside a
+-- block, and `left-none` or `left-broken` at the end. If the buffer has no room for a byte, it uses `block-full` or
+-- `zero-full`.
 use Rattle.std.proofs.Common.{All, ◌≡◌, ◌≢◌, ◌∙◌, ◌+◌, ◌-◌, ◌<◌, ◌≤◌, ◌⊎◌, ◌==◌, ℕ, Bool, true, false, cond, if◌then◌else◌, List, [], ◌∷◌, ◌++◌, length, take, drop, get_or, set, Result, Ok, Err, refl, ap, arith, append_assoc, append-nil, drop_at, length-append, length-drop, length-take-le, take-append-drop, take_all, take_at}
 use Rattle.std.proofs.lemmas.Bool.{cases_Bool}
 use Rattle.std.proofs.lemmas.List.{drop-drop, drop_all, drop_more, get_or-drop, set_at, nil_from_length}
@@ -62,7 +64,7 @@ record Written (h old buffer : List ℕ) (written : ℕ) (left : List ℕ) : Typ
   holds : buffer ≡ done ++ drop written old
   kept : kept_output h ≡ done ++ left
 
--- the result for bytes of which n are kept
+-- the result for the bytes h, whose kept output has n bytes
 kept-result : (h : List ℕ) (whole : Bool) (n : ℕ) → whole_left h ≡ whole → length (kept_output h) ≡ n → cond whole (Ok n) (Err (InvalidFrame n)) ≡ head_result h
 kept-result [] whole n w is = grind (arith, kept_output-empty)
 kept-result (byte ∷ h) whole n w is = grind (arith, cases_Bool, all-kept)

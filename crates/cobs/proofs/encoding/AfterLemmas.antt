@@ -17,12 +17,13 @@ use Rattle.cobs.proofs.encoding.OpenLemmas.{blocks-of, closed_blocks, closed_fra
 use Rattle.cobs.proofs.encoding.OpenedLemmas.{Opened-same, open_frame, open_slice, opened-of, output-opened}
 use Rattle.cobs.specs.Internal.Reaches.{Opened, ends_in_full}
 
--- The encoded frame of a message, by the blocks of its open frame: a lone block after a full one is no part of it.
+-- The encoded frame f of a message consists of the blocks of the message's open frame, without a lone block that
+-- follows a full block. `full` says whether f ends in a full block.
 pub frame-is : {f m o : List ℕ} {index code : ℕ} (e : IsEncodedFrame f m) (r : IsOpenFrame o m index code)
     → let full = ends_in_full r.front r.bytes in (is_full (last_of e.reads.blocks) ≡ full) × (f ≡ closed_frame r full)
 frame-is {f} {m} e r =
     let full : Bool = ends_in_full r.front r.bytes in
-    -- `same`: m has only one encoded frame, so f is the closed open frame
+    -- `same`: m has only one encoded frame, so f is `closed_frame`
     let same = one_encoded f _ m e (encoded-of r full refl) in
     -- `parse`: f can be cut into blocks in only one way, so its last block is the last of `closed_blocks`
     let parse = one_frame f e.reads.blocks (closed_blocks r full) e.reads.frame (rw same (closed_frame-is_frame r full refl)) in
@@ -65,7 +66,7 @@ module _ {slice m : List ℕ} {r : Reached} (h : CobsEncoderAfter slice r m) whe
   parts : All IsBlock o.front × IsBlock (r.block.code ∷ o.bytes)
   parts = blocks-of o
 
-  -- an encoder notes that the frame ends in a full block exactly if it does
+  -- `r.full` is true exactly if the frame ends in a full block (`ends_in_full`)
   noted-is : r.full ≡ ends_in_full o.front o.bytes
   noted-is = h.noted ∙ (frame-is h.encoded o).0
 
@@ -116,7 +117,7 @@ module _ {slice m : List ℕ} {r : Reached} (h : CobsEncoderAfter slice r m) whe
   pub after-place : IsPlaceIn (length slice) r
   after-place = grind (arith, parts, end-is, after-fits)
 
-  -- the length of the frame after the encoder has taken these bytes too
+  -- the length of the frame after the encoder has taken these bytes too, if there is at least one byte
   pub after-len : (bytes : List ℕ) → bytes ≢ [] → encoded_len (m ++ bytes) ≡ r.block.index + open_len r.block.code bytes
   after-len bytes some =
       -- `Opened-len` has the number `next_of r - r.block.index` in place of the code; `code` says that they are equal

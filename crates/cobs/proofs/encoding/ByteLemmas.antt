@@ -36,8 +36,8 @@ module _ {source slice : List ℕ} {r : Reached} {next : ℕ} (place : IsPlaceIn
   -- a zero closes the open block
   pub byte-zero : {r' : Reached} {code : ℕ} → get_or source 0 0 ≡ 0 → code ≡ r.block.code → r' ≡ place_at next 1 false → TakesFront slice r source 1 (set slice r.block.index code) r'
   byte-zero {code = code} zero coded is =
-      -- `Reaches-zero` writes the code `next - r.block.index`, which is `code` (`code-is`); `front-open` states the
-      -- whole step
+      -- `Reaches-zero` writes the code `next - r.block.index`, which is `code` (`code-is`), and the slice keeps its
+      -- length (`long`); `front-open` states the whole step
       let closed = Reaches-zero start {Q = IsNotFull} fits some zero (omega arith) refl in
       let code-is : next - r.block.index ≡ code = omega arith in
       let long = length-set slice r.block.index code in
@@ -92,7 +92,7 @@ module _ {slice m : List ℕ} {r : Reached} (h : CobsEncoderAfter slice r m) (ro
 pub is-place : (e : UnbufferedEncoder) (n : ℕ) → e.taken ≤ 253 → e.index + e.taken + 1 < n → IsPlaceIn n (reached_by e)
 is-place e n short room = grind arith
 
--- there is room for a byte if the byte's index is within the slice
+-- there is room for a byte if the open block isn't full, and the byte's index is within the slice
 pub has-room : (e : UnbufferedEncoder) (slice : List ℕ) (byte : ℕ) → e.taken ≤ 253 → e.index + e.taken + 1 < length slice → HasRoomFor (length slice) (reached_by e) (byte ∷ [])
 has-room e slice byte short room = record { place = is-place e _ short room; fits = fits-byte slice (reached_by e) byte (omega arith) (omega arith) (omega arith) }
 
@@ -100,7 +100,8 @@ has-room e slice byte short room = record { place = is-place e _ short room; fit
 pub place-short : (e : UnbufferedEncoder) (n : ℕ) → IsPlaceIn n (reached_by e) → e.taken ≤ 253
 place-short e n p = grind arith
 
--- the converse of `has-room`: if there is room for a byte, the byte's index is within the slice
+-- the converse of `has-room`: if there is room for a byte, the open block isn't full, and the byte's index is within
+-- the slice
 pub room-only : (e : UnbufferedEncoder) (n byte : ℕ) → HasRoomFor n (reached_by e) (byte ∷ []) → (e.taken ≤ 253) × (e.index + e.taken + 1 < n)
 room-only e n byte h = grind (arith, open_len-least)
 

@@ -1,6 +1,7 @@
--- Lemmas on a window of a source that was copied after the open block (`Copied`), and whose zeros are replaced by codes
--- one by one (`masked-first`). A zero is replaced by `Reaches-join` for the bytes before it, and by `Reaches-zero`
--- (`masked-step`). A window without a zero is taken by `Reaches-join` (`masked-end`).
+-- Lemmas on a window of a source that was copied after the open block's bytes (`CopiedWindow`), and whose zeros are
+-- replaced by codes one by one (`masked-first`). `masked-step` is the step for one zero: the bytes before the zero join
+-- the open block (`Reaches-join`), and the zero closes this block (`Reaches-zero`). If no zero is left, the bytes that
+-- are left join the open block (`masked-end`).
 use Rattle.std.proofs.Common.{◌≡◌, ◌≢◌, ℕ, ◌+◌, ◌-◌, ◌%◌, ◌<◌, ◌≤◌, Bool, false, true, List, ◌++◌, length, drop, take, get_or, replicate, min, suc, refl, sym, ap, ◌∙◌, subst, inl, inr, arith, length-append, length-take-le, length-drop, take_all}
 use Rattle.std.proofs.Math.ListN.{set}
 use borrow.Rule.Slice.PartMut.{put_mid}
@@ -32,7 +33,7 @@ pub record Copied (s : Start) (slice : List ℕ) (read len index next : ℕ) : T
 pub copied-by : {s : Start} {slice after : List ℕ} {read len index next : ℕ} {P : Bool → Type 0} → Reaches s slice read index next P → read + len ≤ length s.source → whole_end s ≤ length slice
     → after ≡ take next slice ++ (take len (drop read s.source) ++ drop (next + len) slice) → Copied s after read len index next
 copied-by {s} {slice} {after} {read} {len} before inside fits is =
-    -- `r` holds for any last block; `row` says that the copied part has `len` bytes
+    -- `r` is `before` without its property P; `room` bounds `next`; `row` says that the copied part has `len` bytes
     let r = Reaches-weaker before {Q = λ _. Unit {0}} (λ full p. tt) in
     let room = least r in
     let row = length-chunk read len s.source inside in
@@ -51,7 +52,7 @@ copied-joins {s} {slice} {read} {len} {index} {next} c k some le short nonzero =
     let here = sym (take-take k len (drop next slice) le) ∙ ap (take k) c.here ∙ take-take k len (drop read s.source) le in
     Reaches-join c.reaches c.room k (omega arith) short nonzero here (grind arith) (λ z. refl)
 
--- the copied bytes are a window, whose bits say which of them are zeros
+-- the copied bytes are a window with the mask `zeros` (`bits`), and the open block has room for a byte (`short`)
 pub record CopiedWindow (s : Start) (slice : List ℕ) (read len index next zeros : ℕ) : Type 0 where
   pub some : 0 < len
   pub few : len ≤ 32
@@ -70,23 +71,25 @@ module _ {s : Start} {slice : List ℕ} {read len index next zeros : ℕ} (w : C
   pub masked-start : min (lowest zeros) len < index + 255 - next → IsMasked s read len next zeros index slice
   masked-start near = grind (arith, least w.copied.reaches)
 
-  -- if the open block is full before the first zero comes, its code 255 is written, and the next block is open
+  -- if the bytes before the first zero, or all bytes of a window without a zero, fill the open block, and more bytes
+  -- follow, the code 255 closes this block, and the next block is open
   pub filled : index + 255 - next ≤ min (lowest zeros) len → read + (index + 255 - next) < length s.source
       → Reaches s (set slice index 255) (read + (index + 255 - next)) (index + 255) (index + 255 + 1) (λ noted. noted ≡ true)
   filled none more =
       -- the number of bytes that fill the open block; by `nonzero`, none of them is a zero
       let until_full : ℕ = index + 255 - next in
       let sum : next + until_full ≡ index + 255 = omega arith in
+      -- the window has `len` bytes, which the tactics below need
       let long = length-chunk read len s.source w.copied.inside in
-      -- `near`: the window's first zero, or its end, doesn't come before these bytes do, so `clear_front` says that
-      -- none of them is a zero
+      -- `near`: `zeros` is the mask of the window, so the premise `none` says that the window's first zero comes after
+      -- these bytes, and `clear_front` says that none of them is a zero
       let near = ap (λ n. min (lowest n) len) w.bits in
       let nonzero = rw (take-take until_full len _ (omega arith)) at (clear_front (take len (drop read s.source)) (omega arith) until_full (omega arith)) in
       -- these bytes join the open block, which then has 254 bytes, so its code 255 closes it (`Reaches-full`)
       let joined = copied-joins w.copied until_full (omega arith) (omega arith) (omega arith) nonzero in
       Reaches-full (rw sum at joined) more refl w.copied.room refl
 
--- a window that is taken whole, and leaves its block open
+-- a window that is taken whole, and after which the open block isn't full (`open'`)
 pub record WindowTaken (s : Start) (slice : List ℕ) (read len index next : ℕ) : Type 0 where
   pub ordered : index < next + len
   pub open' : next + len < index + 255
@@ -118,9 +121,9 @@ module _ {s : Start} {slice : List ℕ} {read len index next zeros d : ℕ} (m :
   masked-code : (byte : ℕ) → IsMaskedAt s read len next zeros index (set slice index byte) d
   masked-code byte = grind (arith, drop-set-lt, take-set, take-set-lt, length-set)
 
-  -- the next zero is replaced by a code
+  -- a zero of the window is left, so the next zero closes the open block
   module _ (some : zeros ≢ 0) where
-    -- the mask has a bit for each byte of the window
+    -- the window has at most 64 bytes, so the mask has a bit for each of them
     small : d + length left ≤ 64
     small = grind (arith, length-take-le, length-drop)
 
@@ -140,7 +143,8 @@ module _ {s : Start} {slice : List ℕ} {read len index next zeros d : ℕ} (m :
     -- the next code
     pub masked-step : IsMasked s read len next (without_lowest zeros) (next + lowest zeros) (set slice index (next + lowest zeros - index))
     masked-step =
-        -- k is the index of the zero in the window, and j its index among the bytes that are left
+        -- k is the index of the zero in the window, and j its index among the bytes that are left; k is d + j (`e`),
+        -- and the zero is within the window (`lt`)
         let k : ℕ = lowest zeros in
         let j : ℕ = nonzero_len left in
         let e = first-is in
@@ -154,7 +158,7 @@ module _ {s : Start} {slice : List ℕ} {read len index next zeros d : ℕ} (m :
         -- a zero
         let front = take-take j (len - d) _ (omega arith) in
         let there = mask_behind-some d left some_bits in
-        -- no byte before the zero is a zero; these bytes are in the slice (`here`)
+        -- none of the j bytes before the zero is a zero; these bytes are in the slice (`here`)
         let nonzero = subst HasNoZero front (nonzero_len-before left there) in
         let here = sym (take-take j (len - d) _ (omega arith)) ∙ ap (take j) m.here ∙ front in
         -- the byte after them is the zero: it has index j among the bytes that are left, so index `read + d + j` in the
@@ -171,7 +175,8 @@ module _ {s : Start} {slice : List ℕ} {read len index next zeros d : ℕ} (m :
   pub masked-ordered : index ≤ next + lowest zeros
   masked-ordered = grind (arith, lowest-none, first-is)
 
--- one step of the loop that writes the codes: the next zero is replaced, or nothing is replaced if no zero is left
+-- the effect of `mark_first`: the next zero closes the open block or, if no zero is left, only the byte in the place of
+-- the open block's code changes
 pub masked-first : {s : Start} {slice : List ℕ} {read len index next zeros : ℕ} → IsMasked s read len next zeros index slice → (after : List ℕ) (r : ℕ × ℕ)
     → after ≡ set slice index ((next + lowest zeros - index) % 256) → (zeros ≡ 0 → r ≡ (index, 0)) → (zeros ≢ 0 → r ≡ (next + lowest zeros, without_lowest zeros))
     → IsMasked s read len next r.1 r.0 after
@@ -203,7 +208,7 @@ short-copied {source} {old} {slice} {r} {mask} code some few short fits is bits 
     } in
     masked-start window (omega arith)
 
--- after its last window, the whole source is taken
+-- if the last window of the source is taken, the whole source is taken
 pub window-front : {source old slice : List ℕ} {r r' : Reached} {read len index next : ℕ} → WindowTaken (start_with old r source) slice read len index next
     → read + len ≡ length source → r' ≡ place_at index (next + len - index) false → TakesFront old r source (length source) slice r'
 window-front {source} {old} {slice} {r} {r'} w last is =
@@ -212,14 +217,16 @@ window-front {source} {old} {slice} {r} {r'} w last is =
 
 -- BYTES THAT ARE TAKEN WITHOUT A MASK
 
--- The next n bytes of the source are zeros. The code of the open block was written, and n ones from `next` on. The ones
--- are the codes of the blocks that the zeros after the first one close and, at last, of the next open block.
+-- The next n bytes of the source are zeros. The code of the open block was written, and then n ones from `next` on. The
+-- first n - 1 ones are the codes of blocks that have only their code; the zeros after the first zero close these
+-- blocks. The last 1 is in the place of the next open block's code.
 pub row-taken : {s : Start} {slice after : List ℕ} {read index next : ℕ} {P : Bool → Type 0} → Reaches s slice read index next P → next < index + 255 → whole_end s ≤ length slice → (n : ℕ)
     → 0 < n → read + n ≤ length s.source
     → take n (drop read s.source) ≡ replicate n 0 → after ≡ take next (set slice index (next - index)) ++ (replicate n 1 ++ drop (next + n) (set slice index (next - index)))
     → WindowTaken s after read n (next + n - 1) next
 row-taken {s} {slice} {after} {read} {index} {next} r short fits n some inside zeros is =
     let room = least r in
+    -- m zeros come after the first zero
     let m : ℕ = n - 1 in
     let sum : suc m ≡ n = omega arith in
     let coded : List ℕ = set slice index (next - index) in

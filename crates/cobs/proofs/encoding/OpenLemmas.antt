@@ -1,6 +1,6 @@
 -- Lemmas on the blocks of an open frame. The main lemma is `encoded-of`: the encoded frame of the same message is the
--- open frame itself, or only the blocks before the last block, if the last block has no byte and follows a full block.
--- `message_of-close` and `message_of-more` say how the message depends on the last block.
+-- open frame itself or, if the last block is the lone block and follows a full block, only the blocks before the last
+-- block. `message_of-close` and `message_of-more` say how the message depends on the last block.
 use Rattle.std.proofs.Common.{◌≡◌, ◌≢◌, ℕ, ◌+◌, Bool, true, false, if◌then◌else◌, List, [], ◌∷◌, ◌++◌, length, All, refl, ap, ◌∙◌, arith, append-nil, append_assoc}
 use Rattle.std.specs.List.{concat}
 use Rattle.std.proofs.lemmas.List.{same_from_push}
@@ -11,7 +11,8 @@ use Rattle.cobs.proofs.format.GrammarLemmas.{encoded-by, IsShorter}
 use Rattle.cobs.proofs.format.FrameLemmas.{All-apart, concat-push, last_of-push}
 use Rattle.cobs.proofs.format.JoinLemmas.{message_of-append}
 
--- the message of blocks with a lone block after them is the message of the blocks, and the joint of the last of them
+-- the message of some blocks and a lone block after them is the message of these blocks, and then the joint of the last
+-- of these blocks
 pub message_of-close : (front : List (List ℕ)) → front ≢ [] → message_of (front ++ lone_block ∷ []) ≡ message_of front ++ joint (last_of front)
 message_of-close front some = grind (arith, message_of-append, append-nil)
 
@@ -21,7 +22,7 @@ message_of-more [] c d bytes more = refl
 message_of-more (x ∷ []) c d bytes more = grind (arith, append_assoc)
 message_of-more (x ∷ y ∷ bs) c d bytes more = grind (arith, append_assoc, message_of-more (y ∷ bs) c d bytes more)
 
--- a fact about all blocks holds for those before the last one, and for the last one
+-- if all these lists are blocks, the lists before the last one are blocks, and the last one is a block too
 pub All-front : (bs : List (List ℕ)) (b : List ℕ) → All IsBlock (bs ++ b ∷ []) → All IsBlock bs × IsBlock b
 All-front bs b h = grind (arith, All-apart)
 
@@ -33,7 +34,7 @@ frame_push bs b h i = grind (arith, common_steps, concat-push)
 pub IsOpenFrame-start : IsOpenFrame lone_block [] 0 1
 IsOpenFrame-start = grind arith
 
--- if the frame ends in a full block, the open block after it has no bytes, and the block before it is full
+-- if the frame ends in a full block, the open block has no bytes, and the last block before the open block is full
 pub no_bytes : (front : List (List ℕ)) (bytes : List ℕ) → ends_in_full front bytes ≡ true → (bytes ≡ []) × (is_full (last_of front) ≡ true)
 no_bytes front bytes h = grind arith
 
@@ -81,7 +82,7 @@ module _ {m f : List ℕ} {index code : ℕ} (o : IsOpenFrame f m index code) wh
   closed_blocks-message : (full : Bool) → ends_in_full o.front o.bytes ≡ full → m ≡ message_of (closed_blocks full)
   closed_blocks-message false noted = o.message
   closed_blocks-message true noted =
-      -- the open block is the lone block, and the full block before it has no joint
+      -- the open block is the lone block, and the joint of the full block before it is empty
       let none = no_bytes o.front o.bytes noted in
       let one : code ≡ 1 = blocks-of.1.0 ∙ ap (λ x. length x + 1) none.0 in
       grind (arith, message_of-close, append-nil)

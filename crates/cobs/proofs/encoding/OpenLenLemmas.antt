@@ -19,6 +19,7 @@ same_start a b t na nb e = grind (arith, stretches-front, length-append)
 -- nonzero bytes join the open block
 pub open_len-join : (code : ℕ) (more t : List ℕ) → 0 < code → HasNoZero more → open_len code (more ++ t) ≡ open_len (code + length more) t
 open_len-join code more t some nonzero =
+    -- `front` has the ones that stand for the open block's bytes; `both`: these ones and the bytes `more` have no zero
     let front : List ℕ = replicate (code - 1) 1 in
     let both = All-append (λ byte. byte ≢ 0) front more (ones-nonzero (code - 1)) nonzero in
     grind (arith, append_assoc, same_start, ones-nonzero, length-append, length-ones)
@@ -33,7 +34,8 @@ open_len-run source read k code some within nonzero =
 pub open_len-full : (t : List ℕ) → t ≢ [] → open_len 255 t ≡ 255 + open_len 1 t
 open_len-full t more = encoded_len-full (replicate 254 1) t (length-ones 254) (ones-nonzero 254) more
 
--- a zero closes the open block. If `code` is greater than 255, the run before the zero fills other blocks first.
+-- a zero closes the open block. If `code` is 255 or greater, the run before the zero fills one or more blocks first,
+-- and the zero closes the block after them.
 pub open_len-zero : (code : ℕ) (t : List ℕ) → 0 < code → open_len code (0 ∷ t) ≡ code + (code - 1) / 254 + open_len 1 t
 open_len-zero code t some = grind (arith, length-ones, encoded_len-run, ones-nonzero)
 
@@ -55,6 +57,7 @@ pub Opened-len : {slice m : List ℕ} {index next : ℕ} {full : Bool} (t : List
     → encoded_len (m ++ t) ≡ index + open_len (next - index) t
 Opened-len t more o =
     let code : ℕ = length o.bytes + 1 in
+    -- `longer`: m followed by t is the message of the same blocks after t is appended to the last block
     let longer = message_of-more o.front code code o.bytes t in
     grind (arith, length-ones, len-blocks o.front code (o.bytes ++ t) o.each, same_start, ones-nonzero)
 

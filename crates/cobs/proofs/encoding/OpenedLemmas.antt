@@ -23,7 +23,8 @@ not_full-more front (b ∷ bytes) more some = refl
 
 -- the slice has the open frame of m, except the open block's code; the lemmas say which changes keep this property
 module _ {slice m : List ℕ} {index next : ℕ} {full : Bool} (o : Opened slice m index next full) where
-  -- another slice that has the same bytes before the open block, and the same bytes of the open block
+  -- this also holds for another slice that has the same bytes before the open block, and the same bytes in the open
+  -- block after its code
   Opened-in : (slice' : List ℕ) → take index slice' ≡ take index slice → drop (index + 1) (take next slice') ≡ drop (index + 1) (take next slice) → Opened slice' m index next full
   Opened-in slice' front behind = grind arith
 
@@ -192,7 +193,8 @@ module _ {g m : List ℕ} {state : OpenBlock} (o : IsOpenOutput g state m) where
   -- g with the right code is the open frame
   pub completed : IsOpenFrame (set g state.index state.code) m state.index state.code
   completed =
-      -- the code is set in `output-is`, which has another byte in its place; the result is the open frame (`f-is`)
+      -- by `output-is`, g is the open frame with another byte in the place of the code; with the code in this place, it
+      -- is the open frame (`f-is`)
       let is = ap (λ l. set l state.index state.code) (output-is o) ∙ set_at (front o) o.2.0 o.1.bytes state.code state.index (begins o) ∙ sym (f-is o.1) in
       rw is o.1
 
@@ -205,7 +207,7 @@ module _ {g m : List ℕ} {state : OpenBlock} (o : IsOpenOutput g state m) where
       -- the code closes the open block (`closed`), whose joint is the zero (`zero`), as its code isn't 255
       let closed = Opened-close (output-opened o) state.code (omega arith) refl in
       let zero : joint (state.code ∷ []) ≡ 0 ∷ [] = grind arith in
-      -- `out`: this also holds with x in the place of the next code, since the new open block has no bytes
+      -- `out`: `closed` also holds with x in the place of the next code, since the new open block has no bytes
       let out = Opened-same-empty closed _ refl (take-append-le _ _ _ (omega arith)) in
       rw zero at (opened-output out 1 refl (omega arith) (length_push _ x ∙ omega arith))
 
@@ -232,8 +234,8 @@ module _ {g m : List ℕ} {state : OpenBlock} (o : IsOpenOutput g state m) where
         let sum : next o + 1 ≡ state.index + 255 = omega arith in
         -- the code 255 closes the open block, which has the byte already (`joins`)
         let closed = Opened-close joins 255 (omega arith) (sym sum) in
-        -- `out`: this also holds for the list with x, whose bytes before x are the same; `coded` says that the code can
-        -- be set before or after the byte is appended
+        -- `out`: `closed` also holds for the list with x, whose bytes before x are the same; `coded` says that the code
+        -- can be set before or after the byte is appended
         let out = Opened-same-empty closed _ refl (
         let coded = set-append_left g _ state.index 255 (index-IsOpenOutput o) in
         let long' = length-set g state.index 255 in

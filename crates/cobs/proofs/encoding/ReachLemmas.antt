@@ -1,6 +1,7 @@
--- Lemmas on `Reaches`, which says how many bytes of a source the core of the encoder has encoded, and on how it
--- continues: nonzero bytes join the open block (`Reaches-join`), and a zero (`Reaches-zero`) or the 254th byte
--- (`Reaches-full`) closes it. By `OpenedLemmas` for the slice, and by `OpenLenLemmas` for the end of the frame.
+-- Lemmas on `Reaches`, which says how many bytes of a source the core of the encoder has encoded. They say what the
+-- next bytes do: nonzero bytes join the open block (`Reaches-join`), and a zero closes it (`Reaches-zero`). If the open
+-- block has 254 bytes and more bytes follow, its code 255 closes it (`Reaches-full`). The proofs use `OpenedLemmas` for
+-- the slice, and `OpenLenLemmas` for the end of the frame.
 use Rattle.std.proofs.Common.{◌≡◌, ◌≢◌, ℕ, ◌+◌, ◌-◌, ◌<◌, ◌≤◌, Bool, true, false, List, ◌∷◌, ◌++◌, length, drop, take, get_or, replicate, zero, suc, refl, sym, arith, inl, inr, ◌⊎◌, append-nil, append_assoc, length-take-le, length-drop}
 use Rattle.std.proofs.Math.ListN.{set}
 use Rattle.std.proofs.Math.Seq.{take-add}
@@ -11,8 +12,7 @@ use Rattle.cobs.proofs.encoding.OpenedLemmas.{Opened-code, Opened-same-empty, Op
 use Rattle.cobs.proofs.encoding.OpenLenLemmas.{len-end, open_len-full, open_len-run, open_len-zero, open_len-least}
 use Rattle.cobs.specs.Internal.Reaches.{HadTaken, Opened, Reaches, Start, whole_end}
 
--- `Reaches` also holds for equal numbers and an equal slice that are written in another way, and for a weaker property
--- Q
+-- `Reaches` also holds if the numbers and the slice are replaced by equal ones, and P by a weaker property Q
 pub Reaches-at : {s : Start} {slice slice' : List ℕ} {pos pos' index index' next next' : ℕ} {P Q : Bool → Type 0} → slice ≡ slice' → pos ≡ pos' → index ≡ index' → next ≡ next'
     → ((full : Bool) → P full → Q full) → Reaches s slice pos index next P → Reaches s slice' pos' index' next' Q
 Reaches-at s p i n weaker r = grind arith
@@ -27,7 +27,7 @@ module _ {s : Start} {slice : List ℕ} {pos index next : ℕ} {P : Bool → Typ
   pub Reaches-weaker : {Q : Bool → Type 0} → ((full : Bool) → P full → Q full) → Reaches s slice pos index next Q
   Reaches-weaker weaker = grind arith
 
-  -- if the open block has no bytes, the byte in its code's place doesn't matter
+  -- if the open block has no bytes, the bytes from its code's place up to the end of the whole frame don't matter
   pub Reaches-same-empty : (slice' : List ℕ) → next ≡ index + 1 → take index slice' ≡ take index slice
       → drop (whole_end s) slice' ≡ drop (whole_end s) s.slice → Reaches s slice' pos index next P
   Reaches-same-empty slice' empty front back = grind (arith, Opened-same-empty)
@@ -82,6 +82,7 @@ module _ {s : Start} {slice : List ℕ} {pos index next : ℕ} {P : Bool → Typ
         let least' = least in
         -- `left`: the bytes that are left begin with the zero
         let left : drop pos s.source ≡ 0 ∷ drop (pos + 1) s.source = grind (arith, drop_more) in
+        -- the zero closes the open block, so the rest of the frame is counted from the next block on
         let zero_len = open_len-zero (next - index) (drop (pos + 1) s.source) (omega arith) in
         record {
           ordered = omega arith;
@@ -120,7 +121,8 @@ pub alike-first : (n pos b : ℕ) (xs : List ℕ) → pos + suc n ≤ length xs 
     → (get_or xs pos 0 ≡ b) × (take n (drop (pos + 1) xs) ≡ replicate n b)
 alike-first n pos b xs within alike = let left = drop_more xs pos 0 (omega arith) in (cc, cc)
 
--- after a zero, n more zeros close n blocks without bytes, whose codes 1 are already in place
+-- The open block has no bytes, so n zeros close n blocks without bytes, the first of which is the open block. The codes
+-- 1 of these blocks, and the code 1 of the block that is then open, are already in place.
 pub Reaches-ones : (n : ℕ) {s : Start} {slice : List ℕ} {pos index : ℕ} → Reaches s slice pos index (index + 1) IsNotFull → pos + n ≤ length s.source → whole_end s ≤ length slice
     → take n (drop pos s.source) ≡ replicate n 0 → take (suc n) (drop index slice) ≡ replicate (suc n) 1 → Reaches s slice (pos + n) (index + n) (index + n + 1) IsNotFull
 Reaches-ones zero r within fits zeros ones = grind arith

@@ -1,6 +1,7 @@
--- Lemmas on the length of the frame from its open block on, counted run by run, as `fits` counts it: `skipped` is its
--- step. The bytes of a run make the open block's code greater, also beyond 255, and `open_len-zero` counts the run's
--- blocks at the zero after it. `encoded_len-longer` says that a longer message has no shorter frame.
+-- Lemmas on the length of the frame from its open block on, counted run by run, as the function `fits` of `room.rt`
+-- counts it. `skipped` is the step of `fits` if there is a zero among the bytes that would fill the open block. The
+-- bytes of a run make the open block's code greater, also beyond 255, and `open_len-zero` counts the run's blocks at
+-- the zero after it. `encoded_len-longer` says that a frame doesn't get shorter if bytes are appended to its message.
 use Rattle.std.proofs.Common.{◌≡◌, ◌≢◌, ℕ, ◌+◌, ◌<◌, ◌≤◌, List, [], ◌∷◌, ◌++◌, length, drop, get_or, arith, length-take-le, length-drop, take-append-drop}
 use Rattle.std.proofs.lemmas.List.{drop-drop, drop_more}
 use Rattle.cobs.specs.Length.{encoded_len, open_len}
@@ -14,8 +15,8 @@ pub ruleset counted = (open_len-least, open_len-most)
 open_len-byte : (code b : ℕ) (t : List ℕ) → 0 < code → b ≢ 0 → open_len code (b ∷ t) ≡ open_len (code + 1) t
 open_len-byte code b t some other = open_len-join code (b ∷ []) t some (one-nonzero b other)
 
--- if some bytes can't fill the open block, they and the zero after them add as many bytes to the frame as they are,
--- whether they contain zeros or not
+-- some bytes can't fill the open block, and a zero follows them: each of these bytes needs one byte of the frame, even
+-- if it is a zero, and the block after the zero that follows is open
 len-skip : (code : ℕ) (bytes t : List ℕ) → 0 < code → code + length bytes < 255 → open_len code (bytes ++ 0 ∷ t) ≡ code + length bytes + open_len 1 t
 len-skip code [] t some few = omega (arith, open_len-zero code t some)
 len-skip code (b ∷ bytes) t some few = grind (arith, open_len-zero, open_len-byte, len-skip 1 bytes t, len-skip (code + 1) bytes t)

@@ -23,7 +23,7 @@ after-some r bytes h = grind arith
 -- the rule set for the tactics of `try_append`
 pub ruleset short_room = (after-some, open_len-most, cases_Bool)
 
--- the frame has room for at least the bytes of the source
+-- each byte of the source needs at least one byte of the frame
 pub next-least : (r : Reached) (source : List ℕ) → 0 < r.block.code → 0 < length source → next_of r + length source ≤ end_after r source
 next-least r source code some = grind (arith, open_len-least)
 
@@ -43,6 +43,7 @@ module _ {s : Start} {slice : List ℕ} {read index next : ℕ} {P : Bool → Ty
   pub joined : get_or s.source read 0 ≡ byte → byte ≢ 0 → next < index + 255 → whole_end s ≤ length slice → Reaches s (set slice next byte) (read + 1) index (next + 1) IsNotFull
   joined is other short fits =
       let room = least r in
+      -- the slice keeps its length, which the tactics below need
       let long = length-set slice next byte in
       -- `one` and `here`: the next byte of the source is this byte, and is now in the slice
       let one : take 1 (drop read s.source) ≡ byte ∷ [] = grind (arith, drop_more) in
@@ -62,7 +63,7 @@ module _ {source old slice : List ℕ} {r r' : Reached} (fits : end_after r sour
       let place : Reached = place_at index code full in
       -- `end`: the end of the frame is the same, counted from the new progress, whether bytes are left or not
       let end : end_after place (drop pos source) ≡ end_after r source = elim (cases_lt pos (length source)) [
-        -- if bytes are left, `open_len` counts the end in both
+        -- if bytes are left, both ends are counted with `open_len` (`after-some`)
         | inl more ↦ grind (arith, after-some, length-drop)
         -- if none is left, the frame ends with the open block (`ends`), since it doesn't end in a full block (`last`)
         | inr none ↦ (let all : pos ≡ length source = omega arith in rw (drop_all pos source (omega arith), last all, ends s all) (omega arith))
@@ -89,7 +90,8 @@ module _ {source old slice : List ℕ} {r r' : Reached} (fits : end_after r sour
         rest = grind (arith, drop-set-lt);
       })
 
--- a byte filled the open block, whose code 255 is now written; bytes may be left or not
+-- the last byte that was taken filled the open block, whose code 255 is now written; bytes of the source may be left or
+-- not
 pub front-filled : {source old slice : List ℕ} {r r' : Reached} {pos index next code : ℕ} {P : Bool → Type 0} → end_after r source ≤ length slice
     → next ≡ index + 255 → Reaches (start_with old r source) slice pos index next P
     → code ≡ 1 → r' ≡ place_at next code true → TakesFront old r source pos (set slice index 255) r'
@@ -141,7 +143,7 @@ module _ (slice : List ℕ) (r : Reached) (is : r ≡ place_at 0 1 false) (some 
   pub start-taken : CobsEncoderAfter slice r []
   start-taken = rw is (after-nothing slice some)
 
-  -- such an encoder has taken its whole source
+  -- the encoder has then taken the whole source
   module _ {slice' source : List ℕ} {r' : Reached} (t : TakesFront slice r source (length source) slice' r') where
     -- the encoder's message is the source
     pub start-after : CobsEncoderAfter slice' r' source
@@ -151,7 +153,7 @@ module _ (slice : List ℕ) (r : Reached) (is : r ≡ place_at 0 1 false) (some 
     pub start-len : end_of r' ≡ encoded_len source
     start-len = all-end t ∙ start-fits source
 
--- the rule set for the tactics of the functions that take a source in steps, such as `append`
+-- the rule set for the tactics of the functions that take a source in steps, such as `append_rest`
 pub ruleset next_steps = (next-least, left-end, front-next, take_rest)
 
 -- the rule set for the tactics of the functions that begin with a new encoder, such as `encode_long`

@@ -1,5 +1,5 @@
--- Worked cases of the definitions and of the laws. They show that each law says something about some frame, and that
--- its premises are needed.
+-- Worked cases of the definitions and of some laws. They show that these laws say something about some frames, and that
+-- some of their premises are needed.
 use Rattle.std.proofs.Common.{◌≡◌, ◌≢◌, ℕ, List, [], ◌∷◌, ◌++◌, replicate, map, refl, arith, true, All, Some, None, sym, subst, ⊎_elim}
 use Rattle.std.proofs.lemmas.List.Elements.{All-head, All-replicate}
 use Rattle.std.proofs.lemmas.Bool.{true≢false}
@@ -14,7 +14,7 @@ use Rattle.cobs.proofs.format.UniqueLemmas.{one_encoded}
 use Rattle.cobs.proofs.format.EnumerationLemmas.{all_frames}
 use Rattle.cobs.proofs.format.JoinLemmas.{front_frame}
 
--- runs: the empty ones before, between and after zeros count
+-- `runs` also counts the empty runs before, between and after zeros
 runs_of_each : map runs ((10 ∷ 11 ∷ 0 ∷ 12 ∷ []) ∷ [] ∷ (0 ∷ 0 ∷ []) ∷ []) ≡ (2 ∷ 1 ∷ []) ∷ (0 ∷ []) ∷ (0 ∷ 0 ∷ 0 ∷ []) ∷ []
 runs_of_each = refl
 
@@ -73,7 +73,7 @@ outcomes : (map (outcome_of (2 ∷ 5 ∷ 3 ∷ 1 ∷ [])) (3 ∷ 2 ∷ []) ≡ B
 unfolding parts parts_after output is_whole last_part outcome_of
 outcomes = (refl, refl)
 
--- 255 bytes after the number 256 would be whole, but 256 is no code
+-- the number 256 and 255 bytes after it: they would be a block if 256 were a code
 abbrev beyond_bytes : List ℕ
 beyond_bytes = 256 ∷ replicate 255 1
 
@@ -126,7 +126,8 @@ fronts_no_frames = (λ (m, r). true≢false (sym (frame_whole (3 ∷ 10 ∷ []) 
 
 -- THE FIRST PIECE
 
--- the bytes before the first zero, and the first piece: they differ if a piece follows leading zeros
+-- the first piece, and the bytes before the first zero: here they are equal, but they differ if the stream begins with
+-- a zero
 first_pieces : (first_piece (2 ∷ 5 ∷ 0 ∷ 9 ∷ []) ≡ Some (2 ∷ 5 ∷ [])) × (head (2 ∷ 5 ∷ 0 ∷ 9 ∷ []) ≡ 2 ∷ 5 ∷ [])
 unfolding first_piece head
 first_pieces = (refl, refl)

@@ -1,7 +1,7 @@
 -- The frames of a message (`all_frames`): its encoded frame and, if the message ends in a full run, that frame followed
 -- by the lone block. Each message has an encoded frame (`encoded_frame`), because an encoder reaches an open frame of
--- it (`after_all`). Every other frame of the message has the same blocks and the lone block (`same_blocks`). An encoded
--- frame ends in a full block exactly if its message ends in a full run (`ends_in_full`).
+-- the message (`after_all`). Every other frame of the message has the same blocks, and then the lone block
+-- (`same_blocks`). An encoded frame ends in a full block exactly if its message ends in a full run (`ends_in_full`).
 use Rattle.std.proofs.Common.{◌≡◌, ◌≢◌, ℕ, zero, suc, ◌+◌, ◌%◌, ◌<◌, ◌↔◌, List, [], ◌∷◌, ◌++◌, length, map, refl, ap, ◌∙◌, arith, append-nil, append_assoc, length-append, inl, inr, ⊎_elim}
 use Rattle.std.proofs.lemmas.List.Folds.{concat-append}
 use Rattle.std.proofs.lemmas.List.{length_push}
@@ -52,8 +52,8 @@ ends_in_full g m e =
 
 -- an encoder that has taken m can take one more byte b; its open block is then `next_open state b`
 pub EncoderAfter-push : (state : OpenBlock) (m : List ℕ) (b : ℕ) → EncoderAfter state m → EncoderAfter (next_open state b) (m ++ b ∷ [])
--- an open frame with 0 in the place of its code is the output of a caller, so `open-zero` gives the next output, whose
--- open frame is the result; `open-full` and `open-more` below do the same for other bytes
+-- an open frame with 0 in the place of the open block's code is the output of a caller, so `open-zero` gives the next
+-- output, whose open frame is the result; `open-full` and `open-more` below do the same for other bytes
 EncoderAfter-push state m zero (f, o) = let r = open-zero (f, o, (0, refl)) 0 in (r.0, r.1)
 EncoderAfter-push state m (suc b) (f, o) = ⊎_elim
     (λ (full : state.code ≡ 254). grind (arith, open-full (f, o, (0, refl)) (suc b) (λ e. omega arith) 0 full))

@@ -58,7 +58,7 @@ pub last_of-append : (xs ys : List (List ℕ)) → 0 < length ys → last_of (xs
 last_of-append [] ys some = refl
 last_of-append (x ∷ xs) ys some = grind (arith, length-append xs ys, last_of-append xs ys some)
 
--- blocks and one more block aren't an empty list
+-- some blocks, the block b and more blocks aren't an empty list
 pub append-some : (bs : List (List ℕ)) (b : List ℕ) (cs : List (List ℕ)) → bs ++ b ∷ cs ≢ []
 append-some [] b cs e = cc
 append-some (x ∷ bs) b cs e = cc
@@ -141,7 +141,7 @@ module _ (f m : List ℕ) (r : Reads f m) where
   pub frame_nonzero : HasNoZero f
   frame_nonzero = grind (arith, concat_nonzero)
 
-  -- the last part of a frame is whole
+  -- a frame is whole: no byte of its last part is missing
   pub frame_whole : IsWhole f
   unfolding last_part is_whole
   frame_whole = grind (arith, frame_some, parts-frame, missing-last)
@@ -165,7 +165,7 @@ All-apart P xs ys h = (
   subst (All P) (grind (arith, drop_at)) (All-drop P (length xs) _ h),
 )
 
--- the code of a block is below 256, so if its bytes are, the whole block is
+-- the code of a block is below 256, so if the bytes after the code are below 256, all bytes of the block are
 block_bytes : (block : List ℕ) → IsBlock block → All (λ b. b < 256) (bytes_of block) → All (λ b. b < 256) block
 block_bytes block h e = grind arith
 

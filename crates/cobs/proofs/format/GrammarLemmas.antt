@@ -1,7 +1,7 @@
 -- A frame can be cut into blocks in only one way (`one_frame`, by `parts-frame`), so it has only one message
--- (`one_message`). A block and the bytes after it are a frame exactly if the bytes after it are one (`front-frame`);
--- `front-canonical` says when the two are a canonical frame. The lemmas before these put a block before a frame, or
--- describe the last block of a canonical frame (`shorter_end`).
+-- (`one_message`). A block with more bytes after it is a frame exactly if these bytes are a frame (`front-frame`);
+-- `front-canonical` says when the block and the bytes are a canonical frame. The lemmas before these put a block before
+-- a frame, or describe the last block of a canonical frame (`shorter_end`).
 use Rattle.std.proofs.Common.{true, ◌≡◌, ◌≢◌, ◌↔◌, ℕ, ◌+◌, ◌<◌, List, [], ◌∷◌, ◌++◌, length, All, refl, sym, ap, ◌∙◌, subst, arith, append-nil, length-append, length-take}
 use Rattle.std.specs.List.{concat}
 use Rattle.std.proofs.lemmas.List.{append_cancel_left}
@@ -36,8 +36,8 @@ IsShorter-cons b bs apart s (x ∷ front) block full e = grind arith
 pub IsShorter-single : (b : List ℕ) → IsShorter (b ∷ [])
 IsShorter-single b front block full e = (omega (arith, ap length e, length-append front (block ∷ lone_block ∷ [])))
 
--- the last block of a list that meets `IsShorter`: its code, its bytes, and the blocks before it (`front`). If the
--- block before it is full, it has at least one byte (`apart`).
+-- the last block of a list that meets `IsShorter`: its code, its bytes after the code, and the blocks before it
+-- (`front`). If the block before the last one is full, the last block has at least one byte after its code (`apart`).
 pub record ShorterEnd (blocks : List (List ℕ)) : Type 0 where
   pub front : List (List ℕ)
   pub code : ℕ
@@ -128,7 +128,7 @@ module _ (block f : List ℕ) (is : IsBlock block) where
   blocks-are : (blocks : List (List ℕ)) → IsFrameOf (block ++ f) blocks → blocks ≡ block ∷ parts f
   blocks-are blocks h = sym (parts-frame _ blocks h) ∙ parts-block block f is
 
-  -- if the block and the bytes f are a frame, f is a frame whose blocks are the parts of f
+  -- if f isn't empty, and the block and the bytes f are a frame, f is a frame whose blocks are the parts of f
   rest-frame : f ≢ [] → (blocks : List (List ℕ)) → IsFrameOf (block ++ f) blocks → IsFrameOf f (parts f)
   rest-frame some blocks h =
       -- the same frame, with its blocks written as `block` and the parts of f
@@ -136,7 +136,7 @@ module _ (block f : List ℕ) (is : IsBlock block) where
       let whole : f ≡ concat (parts f) = grind (arith, append_cancel_left) in
       record { some = λ e. some (whole ∙ ap concat e); each = All-tail IsBlock block (parts f) g.each; whole = whole }
 
-  -- the block and the bytes f are a frame exactly if f is a frame
+  -- if f isn't empty, the block and the bytes f are a frame exactly if f is a frame
   pub front-frame : f ≢ [] → IsFrame (block ++ f) ↔ IsFrame f
   front-frame some = (
     -- if the block and f are a frame, f is a frame of its parts
@@ -145,12 +145,12 @@ module _ (block f : List ℕ) (is : IsBlock block) where
     λ frame. (_, Reads-cons block f frame.0 is frame.1),
   )
 
-  -- the block and the bytes f are a canonical frame exactly if f is one, and f isn't the lone block if the block is
-  -- full
+  -- if f isn't empty, the block and the bytes f are a canonical frame exactly if two conditions hold: f is a canonical
+  -- frame, and f isn't the lone block if the block is full
   pub front-canonical : f ≢ [] → IsCanonical (block ++ f) ↔ (IsCanonical f × (IsFull block → f ≢ lone_block))
   front-canonical some = (
     λ c. (
-      -- if the block and f are a canonical frame, f is one, because its blocks end in the same way
+      -- if the block and f are a canonical frame, f is a canonical frame, because the blocks of f end in the same way
       record {
         blocks = parts f;
         frame = rest-frame some c.blocks c.frame;

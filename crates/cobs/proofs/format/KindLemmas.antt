@@ -50,8 +50,8 @@ pub one-more : (f rest : List ℕ) (full : Bool) → BlocksBehind f rest full �
 one-more f [] full blocks more = grind arith
 one-more f (zero ∷ bytes) full blocks more = grind arith
 one-more f (suc n ∷ bytes) full blocks more =
-    -- `block` is the next block, and `after` has the bytes after it; `is` says that the former is a block, and `other`
-    -- that bytes follow it
+    -- `block` is the next block, and `after` has the bytes after it; `is` says that `block` is a block, and `other`
+    -- that bytes follow it. `none` says that no byte after the code is a zero.
     let block : List ℕ = suc n ∷ take n bytes in
     let after : List ℕ = drop n bytes in
     let long = length-drop n bytes in

@@ -1,6 +1,6 @@
--- The length of an encoded frame (`encoded_len`), counted from the runs of its message, for which the message is cut at
--- its zeros. A run and the zero after it need one code, and one more code for each 254 bytes of the run
--- (`encoded_len-run`). The main lemma is the bound, `encoded_len-le`; messages without zeros reach it
+-- The length of an encoded frame (`encoded_len`), counted from the runs of its message. The message is cut at its zeros
+-- to find its runs. A run and the zero after it need one code, and one more code for each 254 bytes of the run
+-- (`encoded_len-run`). The main lemma is the bound, `encoded_len-le`; messages without zeros reach this bound
 -- (`encoded_len-nonzero`).
 use Rattle.std.proofs.Common.{◌≡◌, ◌≢◌, ℕ, ◌+◌, ◌/◌, ◌<◌, ◌≤◌, ◌==◌, false, List, [], ◌∷◌, ◌++◌, length, map, All, refl, ap, ◌∙◌, subst, arith, length-append}
 use Rattle.std.specs.List.{join_with_byte}
@@ -32,7 +32,7 @@ encoded_len-run bytes m h = grind (arith, slice_split_at, some_stretch, length-a
 pub encoded_len-zero : (bytes m : List ℕ) → length bytes < 254 → HasNoZero bytes → encoded_len (bytes ++ 0 ∷ m) ≡ length bytes + 1 + encoded_len m
 encoded_len-zero bytes m l h = omega (arith, encoded_len-run bytes m h)
 
--- bytes put before the first part
+-- some lists, with the bytes a put before the first list; if there are no lists, only the list a
 abbrev pub onto_parts : List ℕ → List (List ℕ) → List (List ℕ)
 onto_parts a [] = a ∷ []
 onto_parts a (p ∷ ps) = (a ++ p) ∷ ps
@@ -42,7 +42,8 @@ pub stretches-front : (bytes m : List ℕ) → HasNoZero bytes → stretches (by
 stretches-front [] m h = grind (arith, some_stretch)
 stretches-front (b ∷ bs) m h = grind (arith, All-head, stretches-front bs m (All-tail (λ b. b ≢ 0) b bs h))
 
--- 254 bytes before the first part add one full block, if the message that the parts make up isn't empty
+-- 254 bytes before the first stretch add one full block, if the message isn't empty; `parts` has the stretches of the
+-- message
 full_more : (bytes : List ℕ) (parts : List (List ℕ)) → length bytes ≡ 254 → parts ≢ [] → join_with_byte 0 parts ≢ []
     → full_blocks (map length (onto_parts bytes parts)) ≡ 1 + full_blocks (map length parts)
 full_more bytes [] l some more = grind arith
@@ -55,8 +56,8 @@ pub encoded_len-full : (bytes m : List ℕ) → length bytes ≡ 254 → HasNoZe
 encoded_len-full bytes m l h more =
     grind (arith, stretches-front, full_more, length-append, join_with_byte-slice_split 0 m)
 
--- the overhead of a frame, which is the number of its full blocks plus 1, is at most `max_overhead` of the message's
--- length; `parts` has the stretches of the message
+-- the overhead of a frame, which is `full_blocks` of the message's runs plus 1, is at most `max_overhead` of the
+-- message's length; `parts` has the stretches of the message
 full_blocks-le : (parts : List (List ℕ)) → full_blocks (map length parts) + 1 ≤ max_overhead (length (join_with_byte 0 parts))
 full_blocks-le [] = omega arith
 full_blocks-le (p ∷ []) = omega arith
@@ -70,7 +71,7 @@ encoded_len-le m =
     let h = subst (λ x. full_blocks (runs m) + 1 ≤ max_overhead (length x)) (join_with_byte-slice_split 0 m) (full_blocks-le _) in
     omega arith
 
--- a message of at most 254 bytes has one code
+-- the frame of a message of at most 254 bytes is one byte longer than the message
 pub encoded_len-short : (m : List ℕ) → length m < 255 → encoded_len m ≡ length m + 1
 encoded_len-short m short = omega (arith, encoded_len-le m)
 

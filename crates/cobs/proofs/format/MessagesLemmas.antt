@@ -48,8 +48,8 @@ room-step vectors i vector within is = grind (arith, common_steps)
 
 -- WHERE THE FRAMES ARE WRITTEN
 
--- The list `new` was put into `dest` at index `end`, its first `len` bytes are a frame, and a zero was set after the
--- frame. The list now begins with the first `end` bytes of `dest`, the frame and the zero.
+-- The list `new`, which begins with a frame of `len` bytes, was put into `dest` at index `end`, and a zero was set
+-- after the frame. The result begins with the first `end` bytes of `dest`, the frame and the zero.
 pub written : (dest new behind : List ℕ) (end len : ℕ) → end ≤ length dest → len < length new
     → take (end + (len + 1)) (set (take end dest ++ (new ++ behind)) (end + len) 0) ≡ take end dest ++ take len new ++ 0 ∷ []
 written dest new behind end len within room =

@@ -45,8 +45,8 @@ pub first_xored : (bytes : List ℕ) (s : ℕ) → 0 < length bytes → take 1 (
 first_xored [] s some = grind arith
 first_xored (b ∷ bytes) s some = refl
 
--- a slice is unchanged after a frame and two sentinels, if the part between the slice's first and last byte is
--- unchanged after the frame
+-- `part` was put into `dest` at index 1, and a zero was set before and after its first n bytes. If the bytes of `part`
+-- after these n bytes are those of `dest`, the bytes after both zeros are those of `dest` too.
 pub behind_sentinels : (dest part : List ℕ) (k n : ℕ) → n ≤ k → length part ≡ k → k < length dest → drop n part ≡ drop n (take k (drop 1 dest))
     → drop (n + 2) (set (set (put_mid 1 k dest part) 0 0) (n + 1) 0) ≡ drop (n + 2) dest
 behind_sentinels dest part k n short len within behind =

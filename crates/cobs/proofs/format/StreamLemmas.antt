@@ -1,4 +1,4 @@
--- The ended pieces, the outcomes and the unended bytes of a stream that consists of two parts (`ended_pieces-append`,
+-- The ended pieces, the outcomes and the unended bytes of a stream that is cut in two (`ended_pieces-append`,
 -- `stream_outcomes-append`, `unended-append`), or that is longer by one byte (`stream_outcomes-push`, `unended-push`).
 -- All of them follow from the stretches of the stream (`stretches-append`), by std's lemmas on `slice_split`. `law_9`
 -- and `law_10` state these facts.
@@ -20,36 +20,36 @@ use Rattle.cobs.proofs.format.FrameLemmas.{last_of-append}
 pub fed-nonzero : (p : List ℕ) (b : ℕ) → b ≢ 0 → fed p b ≡ p ++ b ∷ []
 fed-nonzero p b h = grind arith
 
--- STRETCHES OF A STREAM IN TWO PARTS
+-- STRETCHES OF A STREAM THAT IS CUT IN TWO
 
 -- a stream has a stretch
 pub length-stretches : (t : List ℕ) → 0 < length (stretches t)
 length-stretches t = grind (arith, length-slice_split)
 
--- the stretches of a stream in two parts t and u: the last stretch of t continues in u
+-- the stretches of a stream that is cut into t and u: the last stretch of t continues in u
 pub stretches-append : (t u : List ℕ) → stretches (t ++ u) ≡ but_last (stretches t) ++ stretches (last_of (stretches t) ++ u)
 unfolding but_last
 stretches-append [] u = refl
 stretches-append (zero ∷ t) u = grind (arith, stretches-append t u, length-stretches t)
 stretches-append (suc b ∷ t) u = grind (arith, stretches-append t u)
 
--- all lists of xs and ys, end to end, except the last one
+-- all lists of xs ++ ys except the last one: the lists of xs, and then all lists of ys except the last one
 but_last-append : (xs ys : List (List ℕ)) → 0 < length ys → but_last (xs ++ ys) ≡ xs ++ but_last ys
 unfolding but_last
 but_last-append [] ys h = refl
 but_last-append (x ∷ xs) ys h = grind (arith, but_last-append xs ys h, length-append xs ys)
 
--- the ended pieces of a stream in two parts: those of t, then those of u after the unended bytes of t
+-- the ended pieces of a stream that is cut into t and u: those of t, then those of u after the unended bytes of t
 pub ended_pieces-append : (t u : List ℕ) → ended_pieces (t ++ u) ≡ ended_pieces t ++ ended_pieces (unended t ++ u)
 unfolding ended_pieces unended
 ended_pieces-append t u = grind (arith, stretches-append, but_last-append, length-stretches, filter-append)
 
--- the unended bytes of a stream in two parts are those of u after the unended bytes of t
+-- the unended bytes of a stream that is cut into t and u are those of u after the unended bytes of t
 pub unended-append : (t u : List ℕ) → unended (t ++ u) ≡ unended (unended t ++ u)
 unfolding unended
 unended-append t u = grind (arith, stretches-append, last_of-append, length-stretches)
 
--- a stream cut in two: the outcomes of the first part, then those of the second after the unended bytes of the first
+-- the outcomes of a stream that is cut into t and u: those of t, then those of u after the unended bytes of t
 pub stream_outcomes-append : (t u : List ℕ) (n : ℕ) → stream_outcomes (t ++ u) n ≡ stream_outcomes t n ++ stream_outcomes (unended t ++ u) n
 unfolding stream_outcomes
 stream_outcomes-append t u n = grind (arith, ended_pieces-append, map-append)
@@ -85,12 +85,12 @@ abbrev pub outcomes_at : List ℕ → ℕ → ℕ → List Outcome
 outcomes_at [] b n = []
 outcomes_at (c ∷ p) b n = cond (eqb b 0) (outcome_of (c ∷ p) n ∷ []) []
 
--- a piece and the zero after it are one ended piece
+-- a stream that consists of a piece and a zero has one ended piece, which is this piece
 pub ended_pieces-piece : (p : List ℕ) → p ≢ [] → HasNoZero p → ended_pieces (p ++ 0 ∷ []) ≡ p ∷ []
 unfolding ended_pieces but_last
 ended_pieces-piece p some h = grind (arith, stretches-piece)
 
--- the front p of a piece and a zero have the outcome of p, or no outcome if p is empty
+-- a stream that consists of the front p of a piece and a zero has the outcome of p, or no outcome if p is empty
 pub stream_outcomes-piece : (p : List ℕ) (n : ℕ) → HasNoZero p → stream_outcomes (p ++ 0 ∷ []) n ≡ outcomes_at p 0 n
 unfolding stream_outcomes ended_pieces but_last
 stream_outcomes-piece p n h = grind (arith, stretches-piece)
@@ -99,13 +99,13 @@ stream_outcomes-piece p n h = grind (arith, stretches-piece)
 pub outcomes_at-nonzero : (p : List ℕ) (b n : ℕ) → b ≢ 0 → outcomes_at p b n ≡ []
 outcomes_at-nonzero p b n h = grind arith
 
--- the outcomes of the front p of a piece and one more byte b
+-- the outcomes of a stream that consists of the front p of a piece and one more byte b
 pub stream_outcomes-push_piece : (p : List ℕ) (b n : ℕ) → HasNoZero p → stream_outcomes (p ++ b ∷ []) n ≡ outcomes_at p b n
 stream_outcomes-push_piece p zero n h = stream_outcomes-piece p n h
 stream_outcomes-push_piece p (suc b) n h =
     grind (arith, stream_outcomes-no_zero, All-push (λ x. x ≢ 0) p (suc b) h (λ e. omega arith))
 
--- the unended bytes of the front p of a piece and one more byte b
+-- the unended bytes of a stream that consists of the front p of a piece and one more byte b
 pub unended-push_piece : (p : List ℕ) (b : ℕ) → HasNoZero p → unended (p ++ b ∷ []) ≡ fed p b
 unfolding unended
 unended-push_piece p zero h = grind (arith, stretches-piece)
@@ -166,7 +166,7 @@ unended-at_sentinel t (inl none) = ap unended none ∙ unended-no_zero [] (All-n
 unended-at_sentinel t (inr (front, ends)) = ap unended ends ∙ unended-zero front
 
 -- The stream a is empty or ends in a sentinel, and a sentinel follows the bytes d. Then the outcomes of the whole
--- stream are those of a, those of d, and those of the bytes z after that sentinel.
+-- stream are those of a, those of d and the sentinel after d, and those of the bytes z after this sentinel.
 pub stream_outcomes-apart : (a d z : List ℕ) (n : ℕ) → IsAtSentinel a → stream_outcomes (a ++ d ++ 0 ∷ z) n ≡ stream_outcomes a n ++ stream_outcomes (d ++ 0 ∷ []) n ++ stream_outcomes z n
 stream_outcomes-apart a d z n h =
     grind (arith, append_assoc, unended-at_sentinel, unended-zero, stream_outcomes-append, stream_outcomes-append (a ++ d ++ 0 ∷ []) z n)

@@ -22,7 +22,7 @@ some_message [] blocks is more e = absurd is
 some_message (code ∷ bytes) [] is more e = more refl
 some_message (code ∷ bytes) (next ∷ blocks) is more e = grind (arith, length-append, ap length e)
 
--- blocks that stand for the empty message are only the lone block
+-- if one or more blocks stand for the empty message, they are only the lone block
 empty_message : (b : List ℕ) (bs : List (List ℕ)) → All IsBlock (b ∷ bs) → message_of (b ∷ bs) ≡ [] → b ∷ bs ≡ lone_block ∷ []
 empty_message [] bs h e = grind (arith, All-head)
 empty_message (c ∷ bytes) [] h e = grind (arith, All-head)
@@ -34,8 +34,9 @@ len-block : (block m : List ℕ) → IsBlock block → (is_full block ≡ true �
 len-block [] m is some = absurd is
 len-block (code ∷ bytes) m is some = grind (arith, append_assoc, encoded_len-full, encoded_len-zero)
 
--- The length of the encoded frame is the length of the blocks before the last one, plus the length of the frame of the
--- last block's bytes. The exception: the last block is empty and follows a full block.
+-- The length of the encoded frame of the message that some blocks stand for: the length of the blocks before the last
+-- one, plus the length of the encoded frame of the last block's bytes. If the block before the last one is full, the
+-- last block must have at least one byte after its code.
 pub len-blocks : (front : List (List ℕ)) (code : ℕ) (bytes : List ℕ) → All IsBlock front → (is_full (last_of front) ≡ true → bytes ≢ [])
     → encoded_len (message_of (front ++ (code ∷ bytes) ∷ [])) ≡ length (concat front) + encoded_len bytes
 len-blocks [] code bytes each some = omega arith
@@ -62,12 +63,12 @@ same_first : (b c : List ℕ) (bs cs : List (List ℕ)) → All IsBlock (b ∷ b
 same_first [] c bs cs h i e = grind (arith, All-head)
 same_first (x ∷ b) [] bs cs h i e = grind (arith, All-head)
 same_first (x ∷ b) (y ∷ c) bs cs h i e =
-    -- both are the first 254 bytes before the first zero of the same message (`e`)
+    -- b and c are both the first 254 bytes, or fewer, before the first zero of the same message (`e`)
     let bytes : b ≡ c = first_bytes x b bs 254 h refl ∙ ap (λ m. take 254 (head m)) e ∙ sym (first_bytes y c cs 254 i refl) in
     grind (arith, All-head)
 
--- if a block alone stands for the same message as this block and other blocks, it is full, and the only other block is
--- the lone block
+-- if a block alone stands for the same message as this block and the blocks after it, this block is full, and the only
+-- block after it is the lone block
 then_lone : (b d : List ℕ) (ds : List (List ℕ)) → All IsBlock (b ∷ d ∷ ds) → bytes_of b ≡ message_of (b ∷ d ∷ ds) → IsFull b × (d ∷ ds ≡ lone_block ∷ [])
 then_lone b d ds h e =
     -- the joint of b and the message of the other blocks have no byte

@@ -2,6 +2,11 @@
 -- the result ends, the slice of the `CobsDecoder` has the bytes that the caller wrote. `CobsDecoder::dest_mut` and
 -- `WriteBuffer::dest_mut` both have this body (`lending`), and `lends` is their whole proof. By the rules of std for a
 -- loan that is handed on: from the decoder to its field (`hands`), and from the field to the slice.
+-- This is a proof in separation logic. The token of a lifetime (`flft`) says that the lifetime hasn't ended. A borrow
+-- (`fbor`) is the right to use a place in memory until a lifetime ends; to read or write this place, the proof opens
+-- the borrow, and closes it later. While a value is lent, there are two facts that agree on its present value: the half
+-- of the reference (`fobs`) and the half of the borrow. `follows` says how the last value of a whole, here
+-- the decoder, follows from the last value of its part.
 use mathlib.Core.Path.{refl, ap}
 use mathlib.Core.List.{List, [], ◌∷◌}
 use base.Fml.{Lft, GName, fat, ftrue, flft, fobs, fbor}
@@ -96,13 +101,16 @@ lending =
 abbrev stayed : Stays f.ended.signature.params f.ended.kept
 stayed = (stay_dropped (RefMutOf (0 ∷ []) tt (plain (λ κs. S.the_row (named_lft 2 1 tt κs))) (λ _. tt)) no, tt)
 
--- in any model of the logic, with the tables of the machine that runs the body
+-- The contract is proved for every choice of these four. 𝓤 is the algebra of resources: each fact of the logic is about
+-- an element of it. 𝓛 is the logic: the memory, the lifetimes and the borrows, with their laws. 𝓜 is a model of the
+-- memory: for each possible memory σ of the machine, it has the fact that the memory is σ. 𝓡 says what a call of a
+-- function does when the machine runs it.
 module _ {M : Type 1} (𝓤 : Ura M) (𝓛 : Logic 𝓤) (𝓜 : Model 𝓤 𝓛.H) (𝓡 : Running 𝓤 𝓛.H 𝓜) where
-  -- the tables of this machine
+  -- the tables that say what each call and each loop in a body does on this machine
   abbrev 𝓣 : MachineTables 𝓤 𝓛.H 𝓜
   𝓣 = tables 𝓤 𝓛.H 𝓜 𝓡 𝓡.env
 
-  -- the main lemma: a function with this body meets the contract of `dest_mut`
+  -- the main lemma: if the body of the function k is `lending`, k meets the contract of `dest_mut`
   pub lends : (k : Callee) → Closed 𝓤 𝓛.H 𝓣.C 𝓣.Λ k lending → Meets 𝓛 f.ended.signature (𝓣.C k) (closing 𝓛 f.ended (f.clauses 𝓛 𝓜.mem 𝓡.returns))
   lends k closed =
       let c = f.clauses 𝓛 𝓜.mem 𝓡.returns in let W = walk_of 𝓛 f.ended stayed c in
@@ -131,12 +139,15 @@ module _ {M : Type 1} (𝓤 : Ura M) (𝓛 : Logic 𝓤) (𝓜 : Model 𝓤 𝓛
       open_ref ! tt (mem F) {b = b} {o = o + 0} $ use1 𝓛 (some (λ (v : Val). ‵ (fat full_share (slice_ty τ) b (o + 0) v) ⊛ ‵ (F.own_val y (v ∷ [])))) (part_out_at 𝓛 F refl full_share y b (o + 0) (slice_ty τ) refl) $
       pick ! (λ v. split ! $ move ! (1 ∷ []) $ fsplit3 ! $ fsplit3 ! $ feq_l ! (λ ev. flt_l ! (λ fits. flt_l ! (λ small.
       rewrite ! 2 (λ (cv : Val). ‵ (fat full_share (slice_ty τ) b (o + 0) cv)) (ap only ev) refl $
-      -- Here the facts are: [obs and borrow of the slice; its cell; the field's borrow, open; obs; auth; follows; the
-      -- token of 'a]. The three assignments of the body follow: the length, the address, and the pair of both.
+      -- The proof now has eight facts, with the numbers 0 to 7. 0: the reference's half of the value of the slice.
+      -- 1: the borrow of the bytes of the slice. 2: the contents of the field in memory, that is, the address and the
+      -- length of the slice (`look_in ! 2` reads this fact). 3: the borrow of the field, which is open. 4 and 5: the
+      -- reference's half and the borrow's half of the value of the field. 6: `follows`, from the field to the decoder.
+      -- 7: the token of 'a. The three assignments of the body follow: the length, the address, and the pair of both.
       sets ! (of_opd ! (load ! (through ! refl (fld ! refl (fld ! refl (stop !)))) (look_in ! 2 (sub ! 1 refl (whole !))))) refl (tt, record { fits = fits }) $
       sets ! (addr ! (through ! refl (fld ! refl (fld ! refl (hop ! (look_in ! 2 (sub ! 0 refl (whole !))) (stop !)))))) refl (tt, tt) $
       sets ! (agg ! (and_then ! (get ! refl) (and_then ! (get ! refl) (no_more !)))) refl (tt, (tt, (record { fits = fits }, tt))) $
-      -- put the slice back into its cell, and close the field's borrow
+      -- put the address and the length of the slice back into the field (fact 2), and close the field's borrow
       flt_i ! (_ * (mem u8).size) (2 ^ 63) small $ flt_i ! _ (2 ^ 64) fits $ feq_i ! (List Val) (mut_slice_vals y) (mut_slice_vals y) refl $ fjoin3 ! $ fjoin3 ! $ move ! (1 ∷ 0 ∷ []) $
       use2 𝓛 (‵ (part_at F full_share y b (o + 0))) (part_in_at 𝓛 F refl full_share y b (o + 0) (slice_ty τ) refl (slice_val y.ref_ptr _)) $
       close_ref ! tt (mem F) y {b = b} {o = o + 0} $

@@ -19,8 +19,8 @@ use Rattle.cobs_bytes.proofs.bytes.ListLemmas.{drop-later}
 
 -- THE RESULT FOR A ZERO
 
--- if the result of a zero reports the end of a piece, it means the outcome of this end, and a reported message fits the
--- buffer
+-- if the result for a zero reports the end of a piece, it means the outcome of this end, and a reported message fits
+-- the buffer
 stated-some : (result : Result (Option ℕ) DecodeError) (buffer : List ℕ) (end : PieceEnd) → end_reported result ≡ Some end → IfOk result (λ found. IfSome found (λ n. n ≤ length buffer))
     → (outcome_reported result buffer ≡ outcome_at end buffer ∷ []) × IsWithin (length buffer) end
 stated-some result buffer end e bound = grind arith

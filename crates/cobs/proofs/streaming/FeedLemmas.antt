@@ -1,8 +1,8 @@
--- The step of `Step.antt` for one byte meets `Feeds`, the contract of `feed` (`Feeds-step`, the main lemma). If the
--- front p of a piece was fed before the byte, then after the step the phase is the phase after `fed p byte`
--- (`PhaseAfter-step`), the result is the result for the byte after p (`PhaseAfter-result_for`), and the buffer begins
--- with the output (`DecoderAfter-step`). Each of these has one case for each phase, and is by `PieceLemmas`, which say
--- what one more byte changes in a piece.
+-- The step of specs/Step.antt for one byte meets `Feeds`, the clause `feeds` of `feed` (`Feeds-step`, the main lemma).
+-- The decoder that makes these steps is called the machine. If the front p of a piece was fed before the byte, then
+-- after the step the phase is the phase after `fed p byte` (`PhaseAfter-step`), the result is the result for the byte
+-- after p (`PhaseAfter-result_for`), and the buffer begins with the output (`DecoderAfter-step`). Each of these has one
+-- case for each phase, and is by `PieceLemmas`, which say what one more byte changes in a piece.
 use Rattle.std.proofs.Common.{◌≡◌, ◌≢◌, ℕ, zero, suc, ◌+◌, ◌<◌, ◌≤◌, Bool, false, cond, leb, List, [], ◌∷◌, ◌++◌, length, take, drop, set, refl, arith, length-append, Option, None, Result, Ok, Err, add-one, inr, ◌⊎◌, true}
 use Rattle.std.proofs.lemmas.List.{take_all, take-append-le, append-nil, length_push, take_more_set, set_past, drop-set-lt, length-set}
 use Rattle.std.proofs.lemmas.List.Elements.{All-push, All-nil}
@@ -82,7 +82,7 @@ end_result-is : (n : ℕ) (p : List ℕ) → end_result n (phase_after p n) ≡ 
 unfolding phase_after result_at_end
 end_result-is n p = grind (arith, over_phase, outcome_of_long, fits_phase, result_within)
 
--- the machine's result for the byte b after the front p: `Ok(None)` if the output with b fits, otherwise an error
+-- the machine's result for a nonzero byte b after the front p: `Ok(None)` if the output with b fits, otherwise an error
 error_if_overlong-push : (p : List ℕ) (b n : ℕ) → error_if_overlong (phase_after (p ++ b ∷ []) n) ≡ cond (leb (length (output (p ++ b ∷ []))) n) (Ok None) (Err TargetBufTooSmall)
 unfolding phase_after
 error_if_overlong-push [] b n = grind arith

@@ -37,6 +37,7 @@ module _ {buffer buffer' f : List ℕ} {phase phase' : Phase} {result : Result (
   -- if f is a frame of m, and m fits, the buffer then begins with m
   bytes_there : (m : List ℕ) → Reads f m → length m ≤ length buffer → take (length m) buffer' ≡ m
   bytes_there m r fits =
+      -- m is the output of f (`is`), and before the zero the buffer begins with this output
       let is = frame_output f m r in
       grind (arith, take_all)
 

@@ -1,6 +1,7 @@
--- The first `run` bytes of a source that begins with a code were fed quietly to an idle decoder (`FrontFed`). The
--- proofs of `decode_long`, `decode_piece` and `decode_blocks` use these lemmas. Either the bytes that were fed end at a
--- zero or at the source's end, and are its whole first piece (`whole`, `whole-count`); or the buffer has no room for
+-- The first `run` bytes of a source that begins with a code were fed quietly (`FeedsQuietly`) to an idle decoder: this
+-- is `FrontFed`. The proofs of `decode_long`, `decode_piece` and `decode_blocks` use these lemmas; that of
+-- `decode_blocks` uses them through `kept_stop` of `KeptQuiet`. Either the bytes that were fed end before a zero or at
+-- the source's end, and are its whole first piece (`whole`, `whole-count`); or the buffer has no room for the output of
 -- the next byte of the piece (`over-long`, `over-written`, `over-count`). The bytes have no zero, so they are a front
 -- of the piece (`QuietLemmas`).
 use Rattle.std.proofs.Common.{◌≡◌, ◌≢◌, ◌+◌, ◌<◌, ◌≤◌, ◌++◌, ℕ, List, ◌∷◌, length, take, drop, get_or, arith, length-append, length-take, length-take-le, refl}
@@ -20,8 +21,8 @@ use Rattle.cobs.proofs.streaming.QuietLemmas.{Quiet, quiet, quiet-full, quiet-lo
 code-first : (source : List ℕ) (n : ℕ) → 0 < length (head source) → 0 < length (take n source) → get_or (take n source) 0 0 ≢ 0
 code-first source n begins some e = grind (arith, get_or-take, length-take, length-head, head-most)
 
--- The first `run` bytes of the source were fed quietly to an idle decoder. The buffer was `old` before, and is `new`
--- now. The field `begins` says that the source begins with a code.
+-- The first `run` bytes of the source were fed quietly to an idle decoder. The buffer was `old` before these bytes were
+-- fed, and is `new` after them. The field `begins` says that the source begins with a code.
 pub record FrontFed (source old new : List ℕ) (phase : Phase) (run : ℕ) : Type 0 where
   pub begins : 0 < length (head source)
   pub within : run ≤ length source
@@ -36,7 +37,7 @@ module _ {source old new : List ℕ} {phase : Phase} {run : ℕ} (f : FrontFed s
   front : Quiet old new phase (take run source)
   front = grind (arith, quiet, none)
 
-  -- the bytes that were fed end at a zero, or at the end of the source
+  -- a zero or the end of the source follows the bytes that were fed
   module _ (stop : run < length source → get_or source run 0 ≡ 0) where
     -- they are the bytes before the first zero of the source, that is, the whole first piece
     all : take run source ≡ head source
@@ -50,7 +51,7 @@ module _ {source old new : List ℕ} {phase : Phase} {run : ℕ} (f : FrontFed s
     pub whole-count : run ≡ length (head source)
     whole-count = grind (arith, length-take-le, all)
 
-  -- the bytes that were fed end before a nonzero byte for which the buffer has no room
+  -- a nonzero byte follows the bytes that were fed, and the buffer has no room for the output of this byte
   module _ (more : run < length source) (other : get_or source run 0 ≢ 0) (over : next_phase (length new) phase (get_or source run 0) ≡ Overlong) where
     -- the bytes of the piece after this byte
     abbrev tail : List ℕ

@@ -1,8 +1,9 @@
--- The bytes h before a zero are decoded up to the last byte whose output is kept: lemmas for `decode_blocks` and
--- `decode_blocks_in_place`. If the first k bytes of h are fed, and their output is the kept output of h, the result and
--- the buffer are right (`kept_fed` in the source's own buffer, `kept_fits` in another one); if the buffer is full
--- before that, the result is an error (`kept_stop`). By `quiet` for the bytes that are fed, and by `TailLemmas` for the
--- bytes that aren't fed.
+-- Lemmas for `decode_blocks` and `decode_blocks_in_place`, which decode the bytes h before a zero up to the last byte
+-- whose output is kept. If the first k bytes of h are fed, and their output is the kept output of h, the result and the
+-- buffer are those that the contract states: `kept_fed` says this of decoding in place, and `kept_fits` of decoding
+-- into another buffer. If the buffer has no room for the output of one of these bytes, the result is an error
+-- (`kept_stop`). The lemmas are by `quiet` for the bytes that are fed, and by `TailLemmas` for the bytes that aren't
+-- fed.
 use Rattle.std.proofs.Common.{◌≡◌, ◌≢◌, ℕ, inl, inr, sym, length-take, ◌-◌, ◌<◌, ◌≤◌, ◌↔◌, IsTrue, Bool, false, get_or, List, ◌++◌, length, take, drop, refl, ap, ◌∙◌, arith, take_all, Result, Ok, Err}
 use Rattle.std.specs.List.{All}
 use Rattle.std.proofs.lemmas.List.{get_or-take, take-take}
@@ -36,7 +37,8 @@ few_missing =
     (λ code bytes short small. omega (arith, ap missing (last_part-last code bytes short), All-head (λ b. b < 256) code bytes small))
     (λ code bytes more rest small. rw (last_part-more code bytes more) (rest (All-drop (λ b. b < 256) (code - 1) bytes (All-tail (λ b. b < 256) code bytes small))))
 
--- the first `tail` bytes of h are fed quietly to an idle decoder, and it is then the decoder `inner`
+-- the first `tail` bytes of h are fed quietly (`FeedsQuietly`) to an idle decoder; after that, it is the decoder
+-- `inner`
 module _ (h old new : List ℕ) (inner : UnbufferedDecoder) (tail : ℕ) (nonzero : HasNoZero h)
     (fed : FeedsQuietly old Idle (take tail h) new (phase_of inner)) where
   -- as many bytes of the last part are missing as the decoder's number `missing` says
@@ -47,7 +49,8 @@ module _ (h old new : List ℕ) (inner : UnbufferedDecoder) (tail : ℕ) (nonzer
       let q = quiet front old new (phase_of inner) (All-take (λ b. b ≢ 0) tail h nonzero) fed in
       sym (quiet-at old new front (phase_of inner) q inner refl).1
 
-  -- if all bytes of h except the last 254 are fed, the missing bytes of the open block are among these 254 bytes
+  -- if all bytes of h except the last 254 are fed, the missing bytes of the block that is then open are among these 254
+  -- bytes (if h has at most 254 bytes, no byte is fed, and no block is open)
   pub tail_left : tail ≡ length h - 254 → All (λ b. b < 256) h → inner.missing ≤ length h - tail
   tail_left is small = elim (cases_eq tail 0) [
     -- h has at most 254 bytes, so no byte is fed
@@ -101,7 +104,8 @@ kept_stop h old new phase k run kept none before inside f over =
     let begins : 0 < length (head front) = rw (head_alone front nonzero) (omega arith) in
     let fed : FrontFed front old new phase run = record { begins = begins; within = omega arith; fed = rw same f } in
     let past = rw (← here) at over in
-    -- `front` has no zero, so it is its own first piece (`head_alone`); its output is too long for the buffer
+    -- `front` has no zero, so it is its own first piece (`head_alone`); its output is too long for the buffer (`long`),
+    -- and its first bytes fill the buffer (`written`)
     let long = rw (head_alone front nonzero) at (over-long fed more other past) in
     let written = rw (head_alone front nonzero) at (over-written fed more other past) in
     grind arith

@@ -49,7 +49,7 @@ pub last_piece-zero : (t : List ℕ) → ended_pieces t ≡ [] → last_piece (t
 unfolding last_piece
 last_piece-zero t none = grind (arith, pieces, unended-zero, append-nil, ended_pieces-zero)
 
--- WHAT IS WRITTEN OF IT
+-- THE OUTPUT OF A PIECE TO WHICH BYTES ARE APPENDED, AND THE BUFFER TO WHICH AN OUTPUT IS WRITTEN
 
 -- if bytes are appended to a piece, its output is the output of the piece before, and then more bytes
 output-end : (p tail : List ℕ) → (more : List ℕ) × (output (p ++ tail) ≡ output p ++ more)

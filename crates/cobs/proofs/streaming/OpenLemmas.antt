@@ -1,6 +1,6 @@
--- Lemmas for `take_to_end`: zeros outside a piece are fed quietly (`quiet-zeros`), and a piece is open after bytes that
--- aren't zeros (`open-after`, by `stays-open`). The proofs of `quiet-zeros` and `stays-open` are by induction on the
--- bytes.
+-- Lemmas for `take_to_end`: zeros outside a piece are fed quietly (`FeedsQuietly`; `quiet-zeros`), and a piece is open
+-- after nonzero bytes that are fed quietly (`open-after`, by `stays-open`). The proofs of `quiet-zeros` and
+-- `stays-open` are by induction on the bytes.
 use Rattle.std.proofs.Common.{◌≡◌, ◌≢◌, ℕ, zero, suc, ◌<◌, ◌≤◌, true, false, List, [], ◌∷◌, length, take, refl, arith}
 use Rattle.std.proofs.lemmas.Bool.{ne_eqb, cases_Bool}
 use Rattle.std.proofs.lemmas.List.Elements.{All-head, All-tail}

@@ -65,6 +65,7 @@ module _ (buffer bytes buffer' f m : List ℕ) (phase phase' : Phase) (idle : ph
   stated (Ok None) w p = absurd p
   stated (Err failure) w p = absurd p
   stated (Ok (Some report)) w p =
+      -- the push reports the only outcome of the consumed bytes, and this is the outcome of f (`first`)
       let first = outcomes-first f [] (length buffer) (parsed_size_of report) piece.0 piece.1 _ [] (outcomes (Ok (Some report)) w) in
       cc
 
@@ -81,8 +82,8 @@ module _ (buffer bytes buffer' f m : List ℕ) (phase phase' : Phase) (idle : ph
       let first = outcomes-first f [] (length buffer) (parsed_size_of report) piece.0 piece.1 _ [] (outcomes (Ok (Some report)) w) in
       let bound = w.bound in
       grind (arith, length-take-le)
-  -- The push can't return an error. After the zero, the error would stand for an outcome that isn't a message. Before
-  -- the zero, each byte returns `Ok(None)`.
+  -- The push can't return an error. If the zero returned it, the outcome of f wouldn't be a message. Each byte before
+  -- the zero returns `Ok(None)`.
   pushed (Err failure) w e = elim (cases_lt (length f) failure.parsed_size) [
     | inl all ↦
         -- the zero is among the consumed bytes, so their first outcome is that of f, a message (`outcomes-behind`)
@@ -103,6 +104,8 @@ module _ {buffer bytes buffer' : List ℕ} {phase phase' : Phase} {result : Resu
   -- if the bytes are f and a zero, the push reports m exactly if f is a frame of m, and m fits
   pub push_reads : All (λ b. b < 256) bytes → (f m : List ℕ) → phase ≡ Idle → bytes ≡ f ++ 0 ∷ [] → IsPiece f → PushesMessage result buffer' m ↔ (Reads f m × (length m ≤ length buffer))
   push_reads below f m idle is piece =
+      -- the push reports m exactly if the outcome of f is m (`says`, `reports`), that is, if f is a frame of m that
+      -- fits (`both`)
       let both = outcome_message f m (length buffer) piece (All-apart (λ b. b < 256) f (0 ∷ []) (rw is at below)).0 in
       let says = stated buffer bytes buffer' f m phase phase' idle is piece result w in
       let reports = pushed buffer bytes buffer' f m phase phase' idle is piece result w in

@@ -126,7 +126,7 @@ module _ {buffer₀ buffer buffer' : List ℕ} {phase₀ phase phase' : Phase} {
 pub pushed_none : {buffer₀ buffer : List ℕ} {phase₀ phase : Phase} (bytes : List ℕ) (i : ℕ) → i ≡ length bytes → Pushed buffer₀ phase₀ buffer phase bytes i → PushesBytes buffer₀ phase₀ bytes (Ok None) buffer phase
 pushed_none {buffer₀} {buffer} {phase₀} {phase} bytes i all s = grind arith
 
--- if the next r bytes are fed quietly, the push continues after them
+-- if the next r bytes are fed quietly (`FeedsQuietly`), the push continues after them
 pub pushed_fed : {buffer₀ buffer buffer' : List ℕ} {phase₀ phase phase' : Phase} (bytes : List ℕ) (i r : ℕ) → i + r ≤ length bytes → Pushed buffer₀ phase₀ buffer phase bytes i
     → FeedsQuietly buffer phase (take r (drop i bytes)) buffer' phase' → Pushed buffer₀ phase₀ buffer' phase' bytes (i + r)
 -- each byte that returns `Ok(None)` preserves `Pushed` (`Pushed-more`), so all these bytes do (`ran-on`)

@@ -1,8 +1,9 @@
--- The front p of a piece is fed quietly to an idle decoder, as the decoders of whole frames do. Then the buffer begins
--- with the output of p, its other bytes are as they were, and the phase is that after p (`Quiet`; `quiet` is the main
--- lemma). From this the file derives the numbers of the decoder (`quiet-within`, `quiet-at`), the whole buffer
--- (`quiet-written`), and the output of a piece whose next byte has no room (`quiet-long`, `quiet-full`). By
--- `piece-all`: no piece has ended in p.
+-- The calls that decode whole frames feed the front p of a piece quietly (`FeedsQuietly`) to an idle decoder. Then the
+-- buffer begins with the output of p, its other bytes are as they were, and the phase is that after p (`Quiet`; `quiet`
+-- is the main lemma, by `piece-all` of `RunLemmas`: no piece has ended in p). From this the file derives the numbers of
+-- the decoder (`quiet-within`, `quiet-at`) and the whole buffer (`quiet-written`). If the buffer has no room for the
+-- output of the next byte of the piece, the output of the piece is too long, and its first bytes fill the buffer
+-- (`quiet-long`, `quiet-full`).
 use Rattle.std.proofs.Common.{◌≡◌, ◌≢◌, ℕ, ◌<◌, ◌≤◌, Bool, cond, eqb, List, [], ◌∷◌, ◌++◌, length, drop, get_or, refl, sym, ap, ◌∙◌, subst, arith, append_assoc, append-nil, take_all, inl, inr, ◌+◌}
 use Rattle.std.proofs.lemmas.List.{drop_all}
 use Rattle.std.proofs.lemmas.Bool.{cases_Bool, cases_lt, ne_eqb, le-leb, lt-leb, leb-false}
@@ -30,7 +31,8 @@ pub quiet-piece : (xs old new : List ℕ) (phase : Phase) → (0 < length xs →
 quiet-piece xs old new phase first f = elim (cases_lt (length (head xs)) (length xs)) [
   | inl more ↦
       let none = (piece-all xs old new Idle phase f).takes.outcomes [] (DecoderAfter-idle old Idle refl) in
-      -- the bytes before the first zero of xs aren't empty; with this zero they are a piece that has ended (`one`)
+      -- there are bytes before the first zero of xs (`some`, `cut`); this zero ends a piece, so xs has an outcome
+      -- (`one`), which contradicts `none`
       let some : head xs ≢ [] = λ e. omega (arith, ap length e, head_some xs (omega arith) (first (omega arith))) in
       let cut = head-cut xs more in
       let one = stream_outcomes-front (head xs) (drop (length (head xs) + 1) xs) (length old) some (head_nonzero xs) in
@@ -39,7 +41,7 @@ quiet-piece xs old new phase first f = elim (cases_lt (length (head xs)) (length
   | inr all ↦ subst HasNoZero (sym (head-front xs) ∙ take_all (length (head xs)) xs all) (head_nonzero xs)
 ]
 
--- the front p of a piece was fed quietly to an idle decoder; the buffer was `old` before, and is `new` now
+-- the front p of a piece was fed quietly to an idle decoder; `old` is the buffer before p, and `new` is the one after p
 pub record Quiet (old new : List ℕ) (phase : Phase) (p : List ℕ) : Type 0 where
   pub after : DecoderAfter new phase p
   pub rest : drop (length (output p)) new ≡ drop (length (output p)) old
@@ -88,7 +90,8 @@ unfolding phase_after
 full-by [] n x nz fits e = grind arith
 full-by (c ∷ p) n x nz fits e = grind (arith, ne_eqb, le-leb, cases_Bool, leb-false)
 
--- `count` is the length of the output of p, and `left` is the number of missing bytes of its last part
+-- `count` is the length of the output of p, and `left` is the number of missing bytes of p's last part; these two
+-- numbers are called the counts of p
 abbrev pub Counts : List ℕ → ℕ → ℕ → Type 0
 Counts p count left = (count ≡ length (output p)) × (left ≡ missing (last_part p))
 
@@ -116,7 +119,7 @@ module _ (old new p : List ℕ) (phase : Phase) (s : Quiet old new phase p) wher
   pub quiet-written : new ≡ overwritten old (output p)
   quiet-written = grind (arith, overwritten-is)
 
-  -- the buffer has no room for the next byte x of the piece; `tail` are the bytes of the piece after x
+  -- the buffer has no room for the output of the next byte x of the piece; `tail` are the bytes of the piece after x
   module _ (x : ℕ) (tail : List ℕ) (nz : x ≢ 0) (over : next_phase (length new) phase x ≡ Overlong) where
     -- the output of the piece is longer than the buffer
     pub quiet-long : length old < length (output (p ++ x ∷ tail))

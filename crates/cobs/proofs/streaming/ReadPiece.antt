@@ -2,7 +2,7 @@
 -- the source is read. It holds after the first code (`read-first`), and each further byte for which there is room
 -- preserves it (`read-byte`, `read-full`, `read-zero`). At a zero or the end of the source (`ended`), or at a byte
 -- without room (`over`), the result and the buffer are those that the contract states (`Ended`). By `FrontFed`: the
--- bytes of the piece that are read have been fed to the machine of `Step`.
+-- bytes of the piece that are read have been fed to the machine, that is, to the decoder that specs/Step.antt defines.
 use Rattle.std.proofs.Common.{◌≡◌, ◌≢◌, ◌∙◌, ◌+◌, ◌-◌, ◌<◌, ◌≤◌, ℕ, zero, suc, Bool, true, false, eqb, List, [], ◌∷◌, length, take, drop, get_or, set, min, Option, Some, None, refl, ap, arith, length-drop, length-set}
 use Rattle.std.proofs.lemmas.Bool.{le-ltb, lt-ltb, ne_eqb}
 use Rattle.std.proofs.lemmas.List.{drop-drop, drop_more, get_or-drop}
@@ -31,7 +31,7 @@ pub record IsRead (source old : List ℕ) (at : ℕ) (new : List ℕ) (full : Bo
   pub within : at ≤ length source
   -- the output fits the buffer
   pub room : written ≤ length new
-  -- the first n bytes of the source without its leading zeros are fed quietly
+  -- the first n bytes of the source without its leading zeros are fed quietly (`FeedsQuietly`)
   pub front : FrontFed (rest source) old new (Within full left written) n
 
 -- the result and the buffer are those of the source's first piece, as the contract of `decode_piece` states
@@ -55,8 +55,8 @@ read-first source old start is more = grind (arith, leading_zeros-stop, head_som
 pub no-piece : (source old : List ℕ) (start : ℕ) → start ≡ leading_zeros source → start ≡ length source → Ended source old old None
 no-piece source old start is all = grind (arith, first_piece_none, length-drop, overwritten-none)
 
--- in the machine of `Step`, a nonzero byte of an open block is written after the output, and one fewer byte of the
--- block is missing
+-- in the machine, a nonzero byte of an open block is written after the output if there is room, and one fewer byte of
+-- the block is missing
 open-byte : (new : List ℕ) (full : Bool) (left written byte : ℕ) → byte ≢ 0 → left ≢ 0
     → (next_buffer new (Within full left written) byte ≡ set new written byte)
     × (next_phase (length new) (Within full left written) byte ≡ grows (length new) full (left - 1) written)
@@ -84,7 +84,8 @@ module _ {source old new : List ℕ} {at left written : ℕ} {full : Bool} (s : 
   pub ended : (at < length source → get_or source at 0 ≡ 0) → {result : Option (PieceEnd × ℕ)} {count : ℕ} → count ≡ min (length source) (at + 1)
       → (left ≡ 0 → result ≡ Some (ends.Message written, count)) → (left ≢ 0 → result ≡ Some (ends.Broken written, count)) → Ended source old new result
   ended stop {result} {count} counted if-whole if-broken =
-      -- so the bytes that are read are the whole piece, and `written` and `left` belong to it (`counts`)
+      -- so the bytes that are read are the whole piece (`w`), `s.n` is its length (`long`), and `written` and `left`
+      -- belong to it (`counts`)
       let at-stop = λ (more : s.n < length (rest source)). here ∙ stop (omega (arith, length-drop (leading_zeros source) source)) in
       let w = whole s.front at-stop in
       let long = whole-count s.front at-stop in

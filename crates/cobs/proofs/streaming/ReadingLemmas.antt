@@ -155,9 +155,10 @@ module _ (front : List ℕ) (n : ℕ) (reads : List Read) (gave : All GaveBytes 
 
 -- A CALL THAT GOES ON
 
--- The call has made `count` reads. Each of them returned bytes, and no piece has ended. `from` and `to` are the states
--- of the source before the call and now. `reader₀` and `reader` are the states of the reader before the call and now,
--- and `unfinished` is its flag, which says whether a piece is unfinished.
+-- The call has made `count` reads. Each of them returned bytes, and no piece has ended. `from` is the state of the
+-- source before the call, and `to` is its state after these reads. `reader₀` is the state of the reader before the
+-- call, and `reader` is its state after these reads. `unfinished` is the reader's flag, which says whether a piece is
+-- unfinished.
 pub record Going {S : Type 0} (step : S → Read → S → Type 0) (from to : S) (reader₀ reader : ReaderState) (unfinished : Bool) (count : ℕ) : Type 0 where
   pub reads : List Read
   pub runs : Runs step from reads to
@@ -266,8 +267,8 @@ ReadsNext-kept step source reader reader' next h idle = record {
       rw (append-nil (p ++ reader.kept)) (Reports-first next [] p reader.kept reader' (stream_outcomes-no_zero p _ b.phased.piece) w idle);
 }
 
--- if the reader was at the end of t, and is now at the end of the unended bytes of t followed by more bytes, it is at
--- the end of t followed by these bytes
+-- if `reader` is at the end of t, and `reader'` is at the end of the unended bytes of t followed by more bytes, then
+-- `reader'` is at the end of t followed by these bytes
 AtStreamEnd-more : (t bytes : List ℕ) (reader reader' : ReaderState) → length reader'.buffer ≡ length reader.buffer → AtStreamEnd t reader → AtStreamEnd (unended t ++ bytes) reader' → AtStreamEnd (t ++ bytes) reader'
 AtStreamEnd-more t bytes reader reader' len before more = grind (arith, stream_outcomes-append, unended-append)
 
@@ -291,7 +292,8 @@ module _ {S : Type 0} {step : S → Read → S → Type 0} {from to to' : S} {re
     runs = grind (arith, Runs-push);
     count_is = grind (arith, length_push);
     gave = All-push GaveBytes g.reads (Some bytes) g.gave some;
-    -- `t` is the stream before this read; the reader is now at the end of t followed by the bytes of this read
+    -- `t` is the stream before this read; after this read, the reader is at the end of t followed by the bytes of the
+    -- read
     at_end = λ p b.
         let t = p ++ reader₀.kept ++ all_given g.reads in
         let end = g.at_end p b in
@@ -304,7 +306,7 @@ module _ {S : Type 0} {step : S → Read → S → Type 0} {from to to' : S} {re
     len = len ∙ g.len;
   }
 
--- THE FRONT OF A CHUNK
+-- THE FRONT OF A CHUNK, AND RANGES OF A CHUNK
 
 -- the first n bytes of a chunk aren't empty if n isn't 0
 pub front_nonempty : (xs : List ℕ) (n : ℕ) → n ≤ length xs → n ≢ 0 → take n xs ≢ []

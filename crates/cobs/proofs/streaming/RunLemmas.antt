@@ -1,7 +1,7 @@
 -- Bytes that are fed quietly (`FeedsQuietly`) have the effect of as many feeds, one after another. So a fact that every
--- feed with the result `Ok(None)` preserves is preserved by all these bytes (`ran-on`, by induction on the bytes). For
--- example, no piece has ended in them (`piece-run`, `piece-all`). The lemmas at the end say which bytes of the buffer
--- don't change (`rest_kept`, `rest_read`).
+-- feed with the result `Ok(None)` preserves is preserved by all these bytes (`ran-on`, by induction on their number).
+-- For example, no piece has ended in them (`piece-run`, `piece-all`). The lemmas at the end say which bytes of the
+-- buffer don't change (`rest_kept`, `rest_read`).
 use Rattle.std.proofs.Common.{◌≡◌, ◌≢◌, ℕ, zero, suc, ◌+◌, ◌-◌, ◌<◌, ◌≤◌, Bool, List, [], ◌∷◌, ◌++◌, length, take, drop, set, get_or, ap, subst, refl, arith, append_assoc, take_all, None, Ok}
 use Rattle.std.proofs.Math.Seq.{take-length}
 use Rattle.std.proofs.lemmas.List.{drop_more, take_more_set, drop-set-lt, drop-drop}

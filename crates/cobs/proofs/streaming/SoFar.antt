@@ -22,7 +22,7 @@ use Rattle.cobs.proofs.format.StreamLemmas.{outcomes_at, outcomes_at-nonzero, st
 
 -- WHAT IS REPORTED AT A ZERO
 
--- the outcome that the result for a zero means, over the buffer after it; none if no piece has ended
+-- the outcome that the result for a zero means, a list of at most one outcome; `buffer` is the buffer after this zero
 abbrev pub outcome_reported : Result (Option ℕ) DecodeError → List ℕ → List Outcome
 outcome_reported (Ok None) buffer = []
 outcome_reported (Ok (Some n)) buffer = Message (take n buffer) ∷ []
@@ -32,7 +32,7 @@ outcome_reported (Err error) buffer = error_outcomes error
 abbrev pub reported_by : ℕ → Result (Option ℕ) DecodeError → List ℕ → List Outcome
 reported_by byte result buffer = cond (eqb byte 0) (outcome_reported result buffer) []
 
--- LISTS OF OUTCOMES
+-- LISTS OF OUTCOMES, AND BYTES WITH OR WITHOUT A ZERO
 
 -- a list that is alike to the empty list is empty
 alike-nil : (xs : List Outcome) → AreAlikeAtFirst xs [] → xs ≡ []
@@ -53,7 +53,7 @@ zero_or_none [] = inr (All-nil (λ b. b ≢ 0))
 zero_or_none (zero ∷ xs) = grind arith
 zero_or_none (suc b ∷ xs) = elim (zero_or_none xs) [ inl h ↦ inl (suc h.0, omega arith, h.2) | inr h ↦ inr (grind arith) ]
 
--- WHAT A BROKEN PIECE DECODES TO IS WITHIN THE BUFFER
+-- THE OUTPUT OF A BROKEN PIECE FITS THE BUFFER
 
 -- if the only outcome of some pieces is a broken piece, the length of its output is at most the buffer's length n
 fits-map : (ps : List (List ℕ)) (count n : ℕ) → Broken count ∷ [] ≡ map (λ p. outcome_of p n) ps → count ≤ n
@@ -66,7 +66,7 @@ pub count-within : (end : PieceEnd) (buffer t : List ℕ) (n : ℕ) → AreAlike
 unfolding stream_outcomes
 count-within end buffer t n h e = grind (arith, fits-map)
 
--- THE STEPS
+-- BYTES THAT ARE FED ONE AFTER ANOTHER
 
 -- if the bytes `done` are fed one after another, and then the bytes `more`, `FeedsEach` holds for all of them
 FeedsEach-append : (done more buffer₀ buffer buffer' : List ℕ) (phase₀ phase phase' : Phase) → FeedsEach buffer₀ phase₀ done buffer phase → FeedsEach buffer phase more buffer' phase'
@@ -98,8 +98,8 @@ module _ {buffer buffer' : List ℕ} {phase phase' : Phase} {byte : ℕ} {result
   pub TakesBytes-byte : TakesBytes buffer phase (byte ∷ []) (reported_by byte result buffer') buffer' phase'
   TakesBytes-byte = grind (arith, unended-push_piece, reported_byte, stream_outcomes-push_piece, alike_byte, Contains-push_cases, DecoderAfter-idle)
 
--- if the phase at the start is that of a decoder that took the front p, then the phase now is that of a decoder that
--- took the unended bytes of p ++ done
+-- if the phase before the bytes `done` is the phase after the front p, the phase after these bytes is the phase after
+-- the unended bytes of p ++ done
 pub phase_so_far : {buffer₀ buffer : List ℕ} {phase₀ phase : Phase} {done : List ℕ} {found : List Outcome} → TakesBytes buffer₀ phase₀ done found buffer phase
     → (p : List ℕ) → PhaseAfter (length buffer₀) phase₀ p → PhaseAfter (length buffer) phase (unended (p ++ done))
 phase_so_far {buffer₀} {buffer} {phase₀} {phase} {done} s p h = rw s.len (s.phased p h)
@@ -154,7 +154,7 @@ pub no_outcomes : (t : List ℕ) (n : ℕ) → stream_outcomes t n ≡ [] → en
 unfolding stream_outcomes
 no_outcomes t n e = nil_from_length (ended_pieces t) (grind (arith, length-map))
 
--- THE BYTES FROM A PLACE ON
+-- THE BYTES FROM AN INDEX ON
 
 -- if a piece ends in the bytes from index i on, `count` is positive, and isn't greater than the number of these bytes
 pub piece_count : {buffer buffer' : List ℕ} {phase phase' : Phase} (bytes : List ℕ) (i : ℕ) (end : PieceEnd) (count : ℕ) → i ≤ length bytes

@@ -1,7 +1,7 @@
 -- Lemmas for the functions of `dec/run.rt`, which take up to 253 bytes at once: they write the bytes after the output,
 -- with a zero over each code (`walked`). `IsSpan` says which bytes may be taken so, and `open_fed` says that this has
 -- the effect of feeding them; it is by `fed_walked`. From it follow `block_fed` for bytes of the open block, `row_fed`
--- for a row of codes 01, and `kept` and `marked` for bytes that were copied or moved after the output.
+-- for blocks that each have the code 1, and `kept` and `marked` for bytes that were copied or moved after the output.
 use Rattle.std.proofs.Common.{◌≡◌, ◌≢◌, ℕ, zero, suc, ◌+◌, ◌-◌, ◌<◌, ◌≤◌, eqb, List, [], ◌∷◌, ◌++◌, length, take, drop, refl, sym, ◌∙◌, arith, length-take-le, length-drop, replicate, take-append-drop, take_all}
 use Rattle.std.proofs.lemmas.List.{append-nil, drop_all, drop-drop, length-replicate, take_rest, take-append-drop}
 use Rattle.std.proofs.Math.Seq.{drop-append_seam, take-add, take-append_seam}
@@ -20,7 +20,7 @@ use Rattle.cobs.proofs.streaming.RunLemmas.{over, phase_with-begun}
 use Rattle.cobs.proofs.streaming.WalkLemmas.{walked-append, fed_walked, length-walked, walked-past, walked-any, IsWalked}
 use Rattle.cobs_bytes.proofs.bytes.ListLemmas.{ones-nonzero}
 
--- if the bytes xs are fed quietly, and then the bytes ys, then xs ++ ys are fed quietly
+-- if the bytes xs are fed quietly (`FeedsQuietly`), and then the bytes ys, then xs ++ ys are fed quietly
 pub FeedsQuietly-append : (xs ys buffer buffer' buffer'' : List ℕ) (phase phase' phase'' : Phase)
     → FeedsQuietly buffer phase xs buffer' phase' → FeedsQuietly buffer' phase' ys buffer'' phase'' → FeedsQuietly buffer phase (xs ++ ys) buffer'' phase''
 FeedsQuietly-append [] ys buffer buffer' buffer'' phase phase' phase'' f g = grind arith
@@ -34,7 +34,7 @@ pub FeedsQuietly-more : (bytes buffer buffer' buffer'' : List ℕ) (phase phase'
 FeedsQuietly-more bytes buffer buffer' buffer'' phase phase' phase'' run more f g = grind (arith, take-add, FeedsQuietly-append)
 
 -- `ys` replaces the bytes of `dest` from index `at` on. If `ys` is these bytes with xs written over the first n of
--- them, then `dest` now has xs at index `at`, and its other bytes are as they were.
+-- them, the result is `dest` with xs written over its n bytes from index `at` on.
 pub part_put : (at n : ℕ) (dest ys xs : List ℕ) → ys ≡ xs ++ drop n (take (length dest - at) (drop at dest)) → put_mid at (length dest - at) dest ys ≡ take at dest ++ (xs ++ drop (at + n) dest)
 part_put at n dest ys xs is = grind (arith, drop_all, length-drop, take_rest, drop-drop, append-nil)
 
@@ -124,12 +124,13 @@ block_fed inner (suc run) dest bytes new going most room within nz is =
     let fed = open_fed s inner.joint (sym past) (code_by-full inner.joint) in
     grind arith
 
--- `walked` of n codes 1, after a block 1: each of the codes becomes a zero
+-- `walked` of n bytes that are all the code 1, after a block with the code 1: each of the n codes becomes a zero
 row_ones : (n : ℕ) → walked 1 0 (replicate n 1) ≡ (replicate n 0, 1, 0)
 row_ones zero = refl
 row_ones (suc n) = grind (arith, row_ones n)
 
--- `walked` of bytes that begin with n codes 1, after a block 1: each of these codes becomes a zero
+-- `walked` of bytes of which the first n are all the code 1, after a block with the code 1: each of these n codes
+-- becomes a zero, and then the other bytes are walked over
 pub row_walked : (n : ℕ) (bytes : List ℕ) → take n bytes ≡ replicate n 1
     → walked 1 0 bytes ≡ let w = walked 1 0 (drop n bytes) in (replicate n 0 ++ w.0, w.1, w.2)
 row_walked n bytes ones =
@@ -137,8 +138,8 @@ row_walked n bytes ones =
     let front = walked-append 1 0 (take n bytes) (drop n bytes) in
     grind (arith, row_ones, take-append-drop)
 
--- If the next n bytes are codes 1, and the block before them is whole and not full, n zeros are written after the
--- output. This has the effect of feeding the codes.
+-- If each of the next n bytes is the code 1, and the block before them is whole and not full, n zeros are written after
+-- the output. This has the effect of feeding the codes.
 pub row_fed : (n : ℕ) (inner : UnbufferedDecoder) (dest bytes new : List ℕ) → 0 < n → n < 254 → inner.too_long ≡ 0 → inner.missing ≡ 0 → inner.joint ≢ 0 → inner.written + n ≤ length dest → take n bytes ≡ replicate n 1
     → new ≡ take inner.written dest ++ (replicate n 0 ++ drop (inner.written + n) dest)
     → FeedsQuietly dest (phase_of inner) (take n bytes) new (phase_of (moved_on inner n inner.missing inner.joint))
@@ -157,10 +158,11 @@ row_fed n inner dest bytes new some few going none due room ones is =
 pub joint-is : (code joint : ℕ) → (code ≡ 255 → joint ≡ 0) → (code ≢ 255 → joint ≡ 1) → eqb joint 0 ≡ eqb code 255
 joint-is code joint full other = grind (arith, ne_eqb)
 
--- the `len` bytes xs were copied or moved to the end of the output: the buffer was `before`, and is now `dest`
+-- the `len` bytes xs were copied or moved to the place after the output, that is, to index `written`: `before` is the
+-- buffer before this, and `dest` is the buffer after it
 module _ (inner : UnbufferedDecoder) (len : ℕ) (dest : List ℕ) (nz : HasNoZero (take len (drop inner.written dest))) (before xs : List ℕ) (room : inner.written + len ≤ length before) (long : length xs ≡ len)
     (is : dest ≡ take inner.written before ++ (xs ++ drop (inner.written + len) before)) (going : inner.too_long ≡ 0) (full : inner.joint ≡ 0 → len ≤ inner.missing) (few : (0 < len) × (len < 254)) where
-  -- the bytes at the end of the output, which are xs (`part-is`)
+  -- the `len` bytes of `dest` after the output, which are xs (`part-is`)
   abbrev part : List ℕ
   part = take (inner.written + len - inner.written) (drop inner.written dest)
 

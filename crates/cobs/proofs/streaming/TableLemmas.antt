@@ -1,7 +1,8 @@
 -- The table of `DecoderState` has the right state and the right data for each byte of a piece: the state is
 -- `state_after` of the bytes so far, and the data of all results so far are the output of these bytes
 -- (`StateAfter-step`, `StateAfter-end`). This is proved with one case for each state, by `PieceLemmas`, which say what
--- one more byte changes in a piece. The machine of `Step` follows the table too (`FeedsByTable-step`).
+-- one more byte changes in a piece. The machine, that is, the decoder that specs/Step.antt defines, follows the table
+-- too (`FeedsByTable-step`).
 use Rattle.std.proofs.Common.{◌≡◌, ◌≢◌, ℕ, zero, suc, ◌-◌, ◌<◌, ◌+◌, ◌⊎◌, ◌↔◌, Bool, cond, eqb, Some, List, [], ◌∷◌, ◌++◌, length, All, Ok, Err, refl, arith}
 use Rattle.std.proofs.lemmas.Bool.{eqb-true, ne_eqb, cases_Bool}
 use Rattle.std.proofs.lemmas.List.{append-nil}

@@ -26,9 +26,9 @@ length-walked code n [] = refl
 length-walked code (suc n) (b ∷ bytes) = ap suc (length-walked code n bytes)
 length-walked code zero (c ∷ bytes) = ap suc (length-walked c (c - 1) bytes)
 
--- Bytes that are fed quietly after an open block are written with a zero over each code. No code among them may follow
--- a full block: if the open block is full, it has bytes enough for all of them; otherwise they are too few for a full
--- block.
+-- Bytes that are fed quietly (`FeedsQuietly`) after an open block are written with a zero over each code. No code among
+-- them may follow a full block: if the open block is full, it has bytes enough for all of them; otherwise they are too
+-- few for a full block.
 pub fed_walked : (bytes buffer : List ℕ) (code left count : ℕ) → HasNoZero bytes
     → (code ≡ 255 → length bytes ≤ left) → (left < length bytes → length bytes < 254) → count + length bytes ≤ length buffer
     → let w = walked code left bytes in

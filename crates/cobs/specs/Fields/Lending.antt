@@ -37,7 +37,7 @@ module _ {N : ℕ} where
 abbrev pub LendsBytes : (R : RattleType) → MutBor R.Denot → MutBor (List ℕ) → (R.Denot → List ℕ → R.Denot) → Fml
 LendsBytes R lender bytes with_bytes = Lends R (Array u8 0) lender bytes (with_bytes lender.now)
 
--- `LendsBytes` for a `CobsDecoder`
+-- `LendsBytes` for a `CobsDecoder`; `named 1` is the lifetime 'a of `CobsDecoder<'a>`
 abbrev pub LendsSlice : MutBor CobsDecoder → MutBor (List ℕ) → Fml
 LendsSlice decoder bytes = LendsBytes (borrowed_row (record { mir = named 1; lft = [] })) decoder bytes with_borrowed_buffer
 

@@ -1,4 +1,5 @@
--- Several bytes are fed to an `UnbufferedDecoder`, and none of them ends a piece or overflows the buffer.
+-- Several bytes are fed to an `UnbufferedDecoder`, and none of them ends a piece or overflows the buffer. The proofs
+-- say that such bytes are *fed quietly*.
 use Rattle.std.specs.Prelude.{◌≡◌, List, [], ◌∷◌, ℕ, length, Ok, None}
 use Rattle.cobs.specs.Feed.{Phase}
 use Rattle.cobs.specs.Step.{next_result, next_buffer, next_phase}

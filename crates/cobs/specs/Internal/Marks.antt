@@ -6,7 +6,8 @@ use Rattle.cobs.specs.Internal.Reaches.{Reaches, Start, whole_end}
 
 -- The window consists of the `len` bytes of the source from index `read` on, and was copied to index `next` of the
 -- slice. Its first d bytes are encoded. The mask `zeros` says which of its other bytes are zeros; codes are written
--- over these zeros later. The code of the open block belongs at `index`.
+-- over these zeros later. The code of the open block belongs at `index`. The field `short` says that the open block
+-- isn't full before the next zero of the window, or before the end of the window if no zero is left.
 pub record IsMaskedAt (start : Start) (read len next zeros index : ℕ) (slice : List ℕ) (d : ℕ) : Type 0 where
   pub seen : d ≤ len
   pub some : 0 < len
@@ -20,7 +21,7 @@ pub record IsMaskedAt (start : Start) (read len next zeros index : ℕ) (slice :
   pub reaches : Reaches start slice (read + d) index (next + d) (λ full. 0 < d → full ≡ false)
 
 -- codes have replaced some zeros of the window. The window is encoded up to and including the last of these zeros, and
--- the open block begins at the place of this zero.
+-- the open block begins at the place of this zero. If no zero is replaced yet, no byte of the window is encoded.
 abbrev pub IsMasked : Start → ℕ → ℕ → ℕ → ℕ → ℕ → List ℕ → Type 0
 IsMasked start read len next zeros index slice = IsMaskedAt start read len next zeros index slice (index + 1 - next)
 

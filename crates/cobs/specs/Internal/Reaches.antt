@@ -46,9 +46,9 @@ whole_end start = end_after start.reached start.source
 unfoldable pub HadTaken : Start → List ℕ → Type 0
 HadTaken start m = CobsEncoderAfter start.slice start.reached m
 
--- After this start, the first `pos` bytes of the source were encoded. The slice is now `slice`, its open block begins
--- at `index`, and the next byte belongs at `next`. After the whole source is encoded, the frame will end at the same
--- index as computed at the start, and the bytes after that index are as they were. P holds for the value that says
+-- After this start, the first `pos` bytes of the source were encoded. `slice` is the slice after that. Its open block
+-- begins at `index`, and the next byte belongs at `next`. After the whole source is encoded, the frame will end at the
+-- same index as computed at the start, and the bytes after that index are as they were. P holds for the value that says
 -- whether the frame ends in a full block.
 pub record Reaches (start : Start) (slice : List ℕ) (pos index next : ℕ) (P : Bool → Type 0) : Type 0 where
   pub ordered : index < next

@@ -63,8 +63,8 @@ impl<'a> CobsDecoder<'a> {
     /// - `Ok(None)`: the byte didn't end a piece, and the slice begins with the output of the piece so far.
     /// - `Ok(Some(n))`: the byte was the zero after a whole frame, and the message is the slice's first `n` bytes.
     ///
-    /// The bytes of the slice after the output are as they were. As long as the output of the piece fits the slice, the
-    /// fed byte changes the decoder's state in the same way as it changes a [`DecoderState`](crate::DecoderState).
+    /// The bytes of the slice after the output are unchanged. As long as the output of the piece fits the slice, the
+    /// byte changes the decoder's state in the same way as it would change a [`DecoderState`](crate::DecoderState).
     ///
     /// # Errors
     /// - `InvalidFrame`: the byte was a zero inside a block. `decoded_bytes` is the length of the piece's output, which
@@ -169,8 +169,9 @@ impl<'a> CobsDecoder<'a> {
 impl FrameDecoder for CobsDecoder<'_> {
     ghost use Rattle.cobs.specs.Fields.Decoders.{borrowed_buffer, borrowed_phase, borrowed_slice};
 
-    // The contracts of `FrameDecoder` need the bytes of this decoder's buffer, its phase, and the number of the slice
-    // that it borrows. A line that begins with `ghost` has no effect when the program runs.
+    // The contracts of `FrameDecoder` need three values: the bytes of the decoder's buffer, the decoder's phase, and a
+    // number for the slice that the decoder borrows. A line that begins with `ghost` has no effect when the program
+    // runs.
     ghost bytes = { borrowed_buffer };
 
     ghost phase = { borrowed_phase };
@@ -247,8 +248,8 @@ impl CobsDecoderOwned {
     }
 
     /// Decodes the next byte of the stream. The results and errors are those of
-    /// [`CobsDecoder::feed`](crate::CobsDecoder::feed). As long as the output of the piece fits the buffer, the fed
-    /// byte changes the decoder's state in the same way as it changes a [`DecoderState`](crate::DecoderState).
+    /// [`CobsDecoder::feed`](crate::CobsDecoder::feed). As long as the output of the piece fits the buffer, the byte
+    /// changes the decoder's state in the same way as it would change a [`DecoderState`](crate::DecoderState).
     ///
     /// ```
     /// let mut decoder = CobsDecoderOwned::new(alloc, 0)?;
@@ -335,9 +336,9 @@ impl CobsDecoderOwned {
 impl FrameDecoder for CobsDecoderOwned {
     ghost use Rattle.cobs.specs.Fields.Decoders.{owned_buffer, owned_phase};
 
-    // The contracts of `FrameDecoder` need the bytes of this decoder's buffer, its phase, and a number for the slice
-    // that a decoder borrows. This decoder borrows no slice, so the number is a constant. A line that begins with
-    // `ghost` has no effect when the program runs.
+    // The contracts of `FrameDecoder` need three values: the bytes of the decoder's buffer, the decoder's phase, and a
+    // number for the slice that the decoder borrows. This decoder borrows no slice, so the number is a constant. A line
+    // that begins with `ghost` has no effect when the program runs.
     ghost bytes = { owned_buffer };
 
     ghost phase = { owned_phase };

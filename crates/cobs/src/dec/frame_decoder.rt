@@ -78,8 +78,8 @@ pub trait FrameDecoder {
     ghost loan: { Self → ℕ };
 
     /// Decodes the next byte of the stream. The results and errors are those of
-    /// [`CobsDecoder::feed`](crate::CobsDecoder::feed). As long as the output of the piece fits the buffer, the fed
-    /// byte changes the decoder's state in the same way as it changes a [`DecoderState`](crate::DecoderState).
+    /// [`CobsDecoder::feed`](crate::CobsDecoder::feed). As long as the output of the piece fits the buffer, the byte
+    /// changes the decoder's state in the same way as it would change a [`DecoderState`](crate::DecoderState).
     ///
     /// ```
     /// let mut decoder = CobsDecoderHeapless::<1>::new();
@@ -98,7 +98,7 @@ pub trait FrameDecoder {
     ///   The bytes after that zero had no effect. So the caller continues with the byte at index `count`, even if the
     ///   piece is too long for the buffer.
     ///
-    /// The bytes of the buffer after the piece's output are as they were.
+    /// The bytes of the buffer after the piece's output are unchanged.
     ///
     /// An implementation doesn't have to define this method: the provided method feeds one byte after another. The
     /// decoders of this library have their own `feed_piece`, which copies many bytes in one step on targets with SIMD
@@ -145,8 +145,8 @@ pub trait FrameDecoder {
 /// Each decoder of this library that implements this trait also has an inherent method `dest_mut`. A proof about a
 /// caller of `CobsDecoder::dest_mut` can use facts about the bytes of the slice while the returned reference is in use.
 /// After the write, the proof can't use facts about the decoder's state, because a `CobsDecoder` borrows its slice. If
-/// the proof needs these facts, the caller writes with [`write_dest`](WriteBuffer::write_dest) instead, or, in generic
-/// code, with the `dest_mut` of this trait. The Rust crate `cobs` has no such trait.
+/// the proof needs these facts, the caller writes with [`write_dest`](WriteBuffer::write_dest) instead. Generic code
+/// can also write with the `dest_mut` of this trait. The Rust crate `cobs` has no such trait.
 ///
 /// ```
 /// let mut buffer = [0; 3];
@@ -158,7 +158,7 @@ pub trait FrameDecoder {
 /// assert_eq!(rt; decoder.dest(), [9, 8, 0].as_slice());
 /// ```
 pub trait WriteBuffer: FrameDecoder {
-    /// The same decoder, except that its buffer has these bytes.
+    /// The same decoder, except that its buffer has the given bytes.
     ghost with_bytes: { Self → List ℕ → Self };
 
     /// Returns the whole buffer, for writing. The buffer keeps the bytes that the caller writes to it.

@@ -76,8 +76,8 @@ impl<const N: usize> CobsDecoderHeapless<N> {
     }
 
     /// Decodes the next byte of the stream. The results and errors are those of
-    /// [`CobsDecoder::feed`](crate::CobsDecoder::feed). As long as the output of the piece fits the buffer, the fed
-    /// byte changes the decoder's state in the same way as it changes a [`DecoderState`](crate::DecoderState).
+    /// [`CobsDecoder::feed`](crate::CobsDecoder::feed). As long as the output of the piece fits the buffer, the byte
+    /// changes the decoder's state in the same way as it would change a [`DecoderState`](crate::DecoderState).
     ///
     /// ```
     /// let mut decoder = CobsDecoderHeapless::<4>::new();
@@ -155,7 +155,7 @@ impl<const N: usize> CobsDecoderHeapless<N> {
     /// assert_eq!(rt; decoder.dest(), [9, 9].as_slice());
     /// ```
     pub fn dest_mut(&mut self) -> &mut [u8]
-        // `N.row` is `N`, in the form that a parameter of a type has in a contract.
+        // Contracts write a type's parameter `N` as `N.row`.
         ensures* writes_back { sem 𝓛 (LendsHeapless N.row self.entry result) }
         ensures value { result.now ≡ heapless_buffer self.old }
     {
@@ -184,9 +184,9 @@ impl<const N: usize> Default for CobsDecoderHeapless<N> {
 impl<const N: usize> FrameDecoder for CobsDecoderHeapless<N> {
     ghost use Rattle.cobs.specs.Fields.Decoders.{heapless_buffer, heapless_phase};
 
-    // The contracts of `FrameDecoder` need the bytes of this decoder's buffer, its phase, and a number for the slice
-    // that a decoder borrows. This decoder borrows no slice, so the number is a constant. A line that begins with
-    // `ghost` has no effect when the program runs.
+    // The contracts of `FrameDecoder` need three values: the bytes of the decoder's buffer, the decoder's phase, and a
+    // number for the slice that the decoder borrows. This decoder borrows no slice, so the number is a constant. A line
+    // that begins with `ghost` has no effect when the program runs.
     ghost bytes = { heapless_buffer };
 
     ghost phase = { heapless_phase };

@@ -38,8 +38,8 @@ impl UnbufferedDecoder {
     /// blocks, each with the code 01, a step decodes only the first row. Second, the output always fits the buffer.
     ///
     /// The output must not overwrite a byte that isn't decoded yet. So the caller ensures that the output so far is at
-    /// most `read` bytes long. If the next code will add the zero of a joint, the caller ensures that the output so far
-    /// is less than `read` bytes long.
+    /// most `read` bytes long. If the next code will add a zero to the output, the caller ensures that the output so
+    /// far is less than `read` bytes long.
     #[inline(always)]
     fn take_part_in_place(&mut self, buffer: &mut [u8], read: usize, end: usize) -> usize
         requires going { self.old.too_long ≡ 0 }
@@ -106,8 +106,8 @@ impl UnbufferedDecoder {
     }
 }
 
-/// Decodes the first `end` bytes of the buffer as one frame, in the buffer itself, and returns the message's length in
-/// bytes. The caller ensures that none of these bytes is a zero.
+/// Decodes the first `end` bytes of the buffer in place, as one frame, and returns the message's length in bytes. The
+/// caller ensures that none of these bytes is a zero.
 fn decode_blocks_in_place(buffer: &mut [u8], end: usize) -> Result<usize, DecodeError>
     requires within { end ≤ length buffer.old }
     requires nonzero { HasNoZero (take end buffer.old) }
@@ -125,9 +125,9 @@ fn decode_blocks_in_place(buffer: &mut [u8], end: usize) -> Result<usize, Decode
     message_len(progress.written, whole)
 }
 
-/// Decodes the first `len` bytes of the buffer, in the buffer itself, if `len` is from 2 to 65 and these bytes are a
-/// frame. Returns whether it decoded the bytes; if it returns false, the buffer is as it was. The function copies the
-/// bytes before it decodes them, and restores them from the copy if the frame is broken.
+/// Decodes the first `len` bytes of the buffer in place, if `len` is from 2 to 65 and these bytes are a frame. Returns
+/// whether it decoded the bytes; if it returns false, the buffer is unchanged. The function copies the bytes before it
+/// decodes them, and restores them from the copy if the frame is broken.
 #[inline(always)]
 fn decode_span_in_place(buffer: &mut [u8], len: usize) -> bool
     requires within { len ≤ length buffer.old }
@@ -148,7 +148,7 @@ fn decode_span_in_place(buffer: &mut [u8], len: usize) -> bool
     }
     coded[0] = buffer[0];
     // The bytes to decode are moved within the buffer. They aren't copied back from `coded`, because a load from
-    // `coded` would have to wait until the vectors that were just copied to `coded` are stored.
+    // `coded` would have to wait for the stores that have just filled `coded`.
     move_to_front(buffer, 1, len - 1);
     let (_, left) = write_zeros_at_codes(&mut buffer[..len - 1], coded[0] as usize);
     if left != 0 {
@@ -161,7 +161,7 @@ fn decode_span_in_place(buffer: &mut [u8], len: usize) -> bool
 /// Decodes the frame at the front of the buffer in place, up to the first zero or the buffer's end. Returns the length
 /// of the frame and the length of the message, in bytes.
 ///
-/// The first `frame_size` bytes of the buffer are then the message, and every other byte of the buffer is as it was.
+/// The first `frame_size` bytes of the buffer are then the message, and every other byte of the buffer is unchanged.
 /// `parsed_size` is the number of bytes before the first zero, or the length of the buffer if it has no zero. Unlike
 /// [`decode`](crate::decode), this function reads a leading zero as an empty message. Both `parsed_size` and
 /// `frame_size` are then 0. This function never returns `TargetBufTooSmall`, because a message is shorter than its
@@ -172,8 +172,8 @@ fn decode_span_in_place(buffer: &mut [u8], len: usize) -> bool
 /// - `EmptyFrame` if the buffer is empty.
 /// - `InvalidFrame` if the frame breaks off inside a block. The buffer then begins with the output of the whole blocks
 ///   before the broken block. If the block before the broken block isn't full, the output ends with the zero that joins
-///   the two blocks. `decoded_bytes` is the length of this output, and every byte of the buffer after the output is as
-///   it was.
+///   the two blocks. `decoded_bytes` is the length of this output, and every byte of the buffer after the output is
+///   unchanged.
 ///
 /// The rule that an error leaves the bytes after the output unchanged is a choice of this library.
 ///
@@ -212,7 +212,7 @@ pub fn decode_in_place_report(buf: &mut [u8]) -> Result<DecodeReport, DecodeErro
 }
 
 /// Decodes a short frame in place, as [`decode_in_place_report`] does. If the buffer isn't a short frame, returns
-/// `None` and leaves the buffer as it was.
+/// `None` and leaves the buffer unchanged.
 ///
 /// The buffer is decoded if it consists of a whole frame of 2 to 65 bytes, with or without one zero after the frame. If
 /// the target has SIMD vectors, [`decode_in_place_report`] calls this function first. Like
@@ -238,7 +238,8 @@ pub fn decode_short_in_place(buf: &mut [u8]) -> Option<DecodeReport>
     if !decode_span_in_place(buf, len) {
         return None;
     }
-    // A frame of up to 65 bytes has no full block. So each of its codes except the first became a zero of the message.
+    // A frame of up to 65 bytes has no full block. So each of its codes, except the first, has become a zero of the
+    // message.
     Some(DecodeReport {
         parsed_size: len,
         frame_size: len - 1,
@@ -248,7 +249,7 @@ pub fn decode_short_in_place(buf: &mut [u8]) -> Option<DecodeReport>
 /// Decodes the frame at the front of the buffer in place, up to the first zero or the buffer's end, and returns the
 /// message's length.
 ///
-/// The message is then at the front of the buffer, and every byte after the message is as it was. Unlike
+/// The message is then at the front of the buffer, and every byte after the message is unchanged. Unlike
 /// [`decode`](crate::decode), this function reads a leading zero as an empty message. The errors are those of
 /// [`decode_in_place_report`].
 ///

@@ -21,8 +21,8 @@ pub enum FrameKind {
     Canonical,
 
     /// The bytes are the longer frame of a message: the frame that encoders write for this message, followed by the
-    /// block 01, which has only its code. A message has a longer frame only if it ends in a run of nonzero bytes whose
-    /// length is a positive multiple of 254.
+    /// block 01, which has only its code. A message has a longer frame only if the message ends in a run of nonzero
+    /// bytes whose length is a positive multiple of 254.
     Longer,
 }
 

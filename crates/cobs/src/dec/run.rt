@@ -1,7 +1,7 @@
 //! The loop that decodes the bytes before a sentinel, on targets with SIMD vectors. Each step of the loop decodes a
 //! long block, one or more *rows*, a *span*, or only a code. A row consists of 32 blocks, each with the code 01. A span
 //! consists of up to 253 bytes of a piece. All bytes of a span are copied, even the codes, and then a zero is written
-//! over each code.
+//! over each code. The file also has `take_short` and `take_front`, which decode a few bytes as one span.
 //!
 //! Each step requires that the output so far fits the buffer, and ensures that the output still fits after the step.
 //! The clauses `going` state this.
@@ -97,8 +97,8 @@ impl UnbufferedDecoder {
         1 + len
     }
 
-    /// Makes the last block of a span the open block. `last` consists of the code of this block and the number of its
-    /// missing bytes.
+    /// Records that the last block of a span is now the open block. `last` consists of the code of this block and the
+    /// number of its missing bytes.
     #[inline(always)]
     fn settle(&mut self, last: (u8, u8))
         ensures full { last.0 ≡ 255 → self.new.joint ≡ 0 }
@@ -201,7 +201,7 @@ impl UnbufferedDecoder {
     }
 
     /// Decodes `bytes` as one span, or decodes nothing. Returns whether it decoded the bytes; if it returns false,
-    /// nothing has changed. The function decodes the bytes exactly if all of these conditions hold:
+    /// nothing has changed. The function decodes the bytes if and only if all of these conditions hold:
     ///
     /// - A piece has begun, and isn't too long for the buffer.
     /// - There are 1 to 31 bytes, and none of them is a zero.
@@ -232,8 +232,8 @@ impl UnbufferedDecoder {
 
     /// Decodes `bytes`, the first bytes of a piece, or decodes nothing. Returns whether it decoded the bytes; if it
     /// returns false, nothing has changed. The caller ensures that `bytes` has at most 65 bytes, and that none of them
-    /// is a zero. The function decodes the bytes exactly if there are at least 2 bytes, and `dest` has room for their
-    /// output. The output is one byte shorter than `bytes`.
+    /// is a zero. The function decodes the bytes if and only if there are at least 2 bytes, and `dest` has room for
+    /// their output. The output is one byte shorter than `bytes`.
     #[inline(always)]
     pub(crate) fn take_front(&mut self, dest: &mut [u8], bytes: &[u8]) -> bool
         requires idle { phase_of self.old ≡ Idle }
@@ -248,6 +248,7 @@ impl UnbufferedDecoder {
         if len < 2 || dest.len() < len - 1 {
             return false;
         }
+        // Only the copy is needed, and not the mask of the zeros that `copy_window` returns: no byte is a zero.
         let _zeros = copy_window(&bytes[1..], dest, 0);
         let first = bytes[0] as usize;
         let (code, missing) = write_zeros_by_rows(&mut dest[..len - 1], &bytes[1..], first, 0);

@@ -6,7 +6,7 @@ ghost use Rattle.cobs.specs.declared.dec.state.DecodeResult.TheVariants.{DataCom
 
 use crate::error::DecodeError;
 
-/// A decoder's state within a frame.
+/// The state of a decoder between two bytes of a stream.
 ///
 /// The state doesn't hold the output, so a caller can write the decoded bytes to a container of its own.
 ///
@@ -135,7 +135,7 @@ impl DecoderState {
     /// - For a byte inside a block, the result is `DataContinue` with this byte.
     ///
     /// Every state has a result for every byte, even a state that no frame leads to, such as `Grab(255)`. The rules for
-    /// blocks are those of the paper by Cheshire and Baker. The names of the results are those of the Rust crate
+    /// blocks are those of the paper by Cheshire and Baker. The results have the same names as in the Rust crate
     /// `cobs`.
     ///
     /// # Errors
@@ -151,8 +151,8 @@ impl DecoderState {
         ensures answer { result ≡ table_result self.old byte }
         ensures state { self.new ≡ table_state self.old byte }
 
-        // The clauses `after` and `message` are about the state after p, the front of a piece, has been fed. `so_far`
-        // lists the bytes of the message that the results have contained so far.
+        // The clauses `after` and `message` assume that p, the front of a piece, has been fed before this call. The
+        // list `so_far` has the bytes of the message that the results have contained so far.
         ensures after { (p so_far : List ℕ) → StateAfter self.old p so_far → byte ≢ 0
             → StateAfter self.new (p ++ byte ∷ []) (so_far ++ data_of result) }
         ensures message { (p so_far m : List ℕ) → StateAfter self.old p so_far → byte ≡ 0

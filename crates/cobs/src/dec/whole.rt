@@ -1,4 +1,4 @@
-//! Decodes a whole frame into another buffer.
+//! Decoding a whole frame into a separate buffer.
 ghost use Rattle.std.specs.Prelude.{◌≡◌, ◌≤◌, ◌+◌, List, length, ℕ, None, IfSome, IsSome};
 ghost use Rattle.cobs.specs.Overwritten.{overwritten};
 ghost use Rattle.cobs.specs.Decode.{IsShortPiece, first_output, result_of_decode};
@@ -16,19 +16,19 @@ use cobs_bytes::window::has_vectors;
 /// Decodes the first frame of the source into `dest`, and returns how many bytes of the source were consumed and how
 /// many bytes the message has.
 ///
-/// Leading zeros are skipped. The frame ends at the next zero, or at the source's end if no other zero follows. The
-/// bytes after the next zero have no effect. The first `frame_size` bytes of `dest` are the message, and the other
-/// bytes of `dest` are as they were. `parsed_size` counts the skipped zeros, the frame, and the zero after the frame if
-/// there is one.
+/// Leading zeros are skipped. The frame ends at the next zero, or at the source's end if there is no other zero. The
+/// bytes after the zero that ends the frame have no effect. The first `frame_size` bytes of `dest` are the message, and
+/// the other bytes of `dest` are unchanged. `parsed_size` counts the skipped zeros, the frame, and the zero after the
+/// frame if there is one.
 ///
 /// # Errors
 ///
 /// - `EmptyFrame` if the source is empty, and `InvalidFrame` with `decoded_bytes` 0 if the source has only zeros. In
-///   both cases `dest` is as it was.
+///   both cases `dest` is unchanged.
 /// - `TargetBufTooSmall` if the frame decodes to more bytes than `dest` has. `dest` is then filled with the first
 ///   decoded bytes.
 /// - `InvalidFrame` if the frame breaks off inside a block. `dest` then begins with the decoded bytes, including those
-///   of the broken block. `decoded_bytes` is the number of these bytes. The other bytes of `dest` are as they were.
+///   of the broken block. `decoded_bytes` is the number of these bytes. The other bytes of `dest` are unchanged.
 ///
 /// The format is that of Cheshire and Baker's paper. The results for a broken frame are a choice of this library.
 ///
@@ -86,8 +86,8 @@ fn decode_long(source: &[u8], dest: &mut [u8]) -> Result<DecodeReport, DecodeErr
     })
 }
 
-/// Decodes a short frame as [`decode`] does. If the conditions below aren't met, returns `None` and leaves `dest` as it
-/// was.
+/// Decodes a short frame as [`decode`] does. If the conditions below aren't met, returns `None` and leaves `dest`
+/// unchanged.
 ///
 /// The source must consist of `n` nonzero bytes, with or without one zero after them. The number `n` must be from 2 to
 /// 65, and `dest` must have at least `n - 1` bytes. If the target has SIMD vectors, [`decode`] calls this function

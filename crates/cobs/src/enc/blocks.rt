@@ -1,5 +1,5 @@
-//! Cuts a message into blocks. On targets with SIMD vectors, these functions are the core of the encoders that write to
-//! a slice. A *window* is 32 bytes that are copied in one step. The *mask* of a window is a number with one bit for
+//! Functions that cut a message into blocks. On targets with SIMD vectors, they are the core of the encoders that write
+//! to a slice. A *window* is 32 bytes that are copied in one step. The *mask* of a window is a number with one bit for
 //! each byte of the window; the bit is 1 if the byte is a zero.
 ghost use Rattle.std.specs.Prelude.{◌≡◌, ◌≢◌, ◌<◌, ◌≤◌, ◌+◌, ◌-◌, ◌%◌, ◌++◌, ◌==◌, ℕ, IsTrue, List, length, not, take, drop, replicate};
 ghost use Rattle.cobs.specs.Grammar.{HasNoZero, IsEncodedFrame};
@@ -15,7 +15,7 @@ use crate::find::position_or_len;
 use cobs_bytes::window::{WINDOW, copy_at, copy_window, has_vectors, write_row, zeros_at};
 
 /// If `append_short` gets fewer bytes than this number, it encodes them one by one. In the Rust crate `jcobs`, this is
-/// faster than copying a window. `push_few` encodes one by one too, and accepts up to this number of bytes.
+/// faster than copying a window. `push_few` also encodes its bytes one by one, and accepts up to this number of bytes.
 pub(crate) const APPEND_EACH_BELOW: usize = 8;
 
 /// The mask of a window that has only zeros.
@@ -85,11 +85,11 @@ fn mark_zeros(dest: &mut [u8], index: usize, next: usize, zeros: u64) -> usize
     index
 }
 
-/// Encodes the first `len` bytes of `source` one by one. The caller ensures that these bytes can't fill the open block.
-/// Each zero is copied like any other byte. A block begins at the copy of the zero, and the code of this block is later
-/// written over the zero. No branch tests whether a byte is a zero, because a processor could mispredict that branch.
-/// Instead, at each byte the function writes a code for the open block, as if this byte were the zero that ends the
-/// block.
+/// Encodes the first `len` bytes of `source` one by one. The caller ensures that these bytes are too few to fill the
+/// open block. Each zero is copied like any other byte. A block begins at the copy of the zero, and the code of this
+/// block is later written over the zero. No branch tests whether a byte is a zero, because a processor could mispredict
+/// that branch. Instead, at each byte the function writes a code for the open block, as if this byte were the zero that
+/// ends the block.
 #[inline(always)]
 pub(crate) fn append_few(
     source: &[u8],
@@ -116,10 +116,10 @@ pub(crate) fn append_few(
     encoder_at(index, next, 0)
 }
 
-/// Encodes all bytes of `source`. These are at most 32 bytes, and they can't fill the open block. The function has few
-/// branches that a processor could mispredict: it calls `mark_first` twice before a branch depends on the number of
-/// zeros. If `test_for_none` is true, a branch first tests whether `source` has a zero. `push` passes true, because
-/// this test makes a push of bytes without zeros faster.
+/// Encodes all bytes of `source`. The caller ensures that there are at most 32 bytes, and that they are too few to fill
+/// the open block. The function has few branches that a processor could mispredict: it calls `mark_first` twice before
+/// a branch depends on the number of zeros. If `test_for_none` is true, a branch first tests whether `source` has a
+/// zero. `push` passes true, because this test makes a push of bytes without zeros faster.
 #[inline(always)]
 #[tactic(auto, using(crate::proofs::encoding::TakingLemmas::next_steps))]
 pub(crate) fn append_short(
@@ -176,15 +176,15 @@ fn write_codes_of_zeros(source: &[u8], dest: &mut [u8], at: usize) -> usize
 ///
 /// Each window is copied to the index at which the frame's next byte belongs. If the bytes before the window's first
 /// zero fill the open block, the function closes this block and returns. The caller then copies the rest of the run in
-/// slices, because a run that fills one block often fills more blocks. If these bytes don't fill the open block, the
-/// function writes a code over each zero of the window, and the last block stays open for the next window. If the
-/// window consists of zeros, the windows of zeros after it aren't copied. Instead, the function writes the codes for
-/// their zeros, 32 codes at a time. The bytes of `dest` after the frame don't change.
+/// slices, because a run that fills one block often fills more blocks. If the bytes before the first zero don't fill
+/// the open block, the function writes a code over each zero of the window, and the last block stays open for the next
+/// window. If the window consists only of zeros, the windows of zeros that follow it aren't copied. Instead, the
+/// function writes the codes for their zeros, 32 codes at a time. The bytes of `dest` after the frame don't change.
 ///
 /// In the body of the function, the code of the open block belongs at `index`, and the window is copied to `next`. The
-/// end of a block is the index after its last byte. If the window has a zero, its first zero is copied to `place`, and
-/// the open block's end is `place`. If the window has no zero, the open block's end is `next + 32`. A full block has
-/// 255 bytes. So the open block doesn't become full if its end is less than `index + 255`.
+/// end of a block is the index after its last byte. If the window has a zero, its first zero is copied to index
+/// `place`, and the open block's end is `place`. If the window has no zero, the open block's end is `next + 32`. A full
+/// block has 255 bytes. So the open block doesn't become full if its end is less than `index + 255`.
 #[inline(always)]
 #[tactic(auto, using(crate::proofs::encoding::TakingLemmas::next_steps))]
 fn append_windows(
@@ -314,8 +314,8 @@ pub(crate) fn append_rest(
     encoder
 }
 
-/// Appends `source` to the message whose frame `encoder` writes to `dest`, and returns the encoder's state after
-/// `source`. The code of the open block isn't written yet: [`close`] writes it at the end of the message.
+/// Appends `source` to the message that `encoder` encodes into `dest`, and returns the encoder's state after `source`.
+/// The code of the open block isn't written yet: [`close`] writes it at the end of the message.
 ///
 /// [`append_windows`] encodes most bytes. Usually few bytes remain, and [`append_short`] encodes them. If more bytes
 /// remain than a window holds, or if the remaining bytes may fill the open block, [`append_rest`] encodes them.
@@ -345,9 +345,10 @@ pub(crate) fn append(
 
 /// Writes the code of the open block, unless the frame ends with a full block, and returns the frame's length. Before
 /// the call, the byte at the code's index may have any value.
-// First, the function tests whether `index` is within the slice, though `index` can be outside the slice only after a
-// full block. If this test didn't come first, compilers would move the other test, of `encoder.full`, into the caller's
-// loop over single bytes. With link-time optimization, this can halve that loop's speed in the Rust crate `jcobs`.
+// The function first tests whether `index` is within the slice, even though `index` can be outside the slice only after
+// a full block. If this test didn't come first, compilers would move the other test, of `encoder.full`, into the
+// caller's loop over single bytes. With link-time optimization, this can halve that loop's speed in the Rust crate
+// `jcobs`.
 #[inline(always)]
 pub(crate) fn close_block(dest: &mut [u8], encoder: &UnbufferedEncoder) -> usize
     requires { IsPlaceIn (length dest.old) (reached_by encoder.now) }
@@ -366,8 +367,8 @@ pub(crate) fn close_block(dest: &mut [u8], encoder: &UnbufferedEncoder) -> usize
 }
 
 /// Writes the code of the open block, unless the frame ends with a full block, and returns the frame's length, as
-/// [`close_block`] does. If the frame ends with a full block, `close` also stores a byte on a target with SIMD vectors:
-/// the byte of the slice after the frame, if there is one. This byte keeps its value.
+/// [`close_block`] does. If the frame ends with a full block, and the target has SIMD vectors, `close` also writes the
+/// byte of the slice after the frame, if there is one, but this byte keeps its value.
 // Because of this store, compilers keep the caller's loop over single bytes as it is written. Without the store, that
 // loop is slower in the Rust crate `jcobs` on x86-64. On a target without vectors, `close` calls `close_block`, which
 // needs less flash.

@@ -14,7 +14,7 @@ use crate::max_encoding_overhead;
 ///
 /// The message has `len` bytes. It begins at index [`max_encoding_overhead(len)`](crate::max_encoding_overhead) of
 /// `buffer`. The bytes before the message may have any values. After the call, `buffer` begins with the frame that
-/// [`encode`](crate::encode) writes for this message. Every byte of `buffer` after the frame stays as it was, even if
+/// [`encode`](crate::encode) writes for this message. Every byte of `buffer` after the frame stays unchanged, even if
 /// the byte belongs to the message.
 ///
 /// Precondition: the length of `buffer` is at least [`max_encoding_length(len)`](crate::max_encoding_length). So the

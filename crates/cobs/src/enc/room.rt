@@ -1,4 +1,4 @@
-//! Encodes only if the frame fits the buffer. This is tested before any byte of the frame is written.
+//! Functions that encode only if the frame fits the buffer. They test this before they write any byte of the frame.
 ghost use Rattle.std.specs.Prelude.{◌≡◌, ◌<◌, ◌≤◌, ◌+◌, ◌^◌, ◌↔◌, IfSome, IsSome, IsTrue, false, length};
 ghost use Rattle.cobs.specs.Length.{max_encoded_len, open_len};
 ghost use Rattle.cobs.specs.OpenBlock.{IsPlaceIn, end_after};
@@ -70,15 +70,15 @@ pub(crate) fn has_room(taken: u8, bytes: &[u8], room: usize) -> bool
     covers_overhead(len, spare) || fits_each(taken, bytes, spare)
 }
 
-/// Tests whether `source` can be appended to an open block of `taken` bytes. Returns `Some` if the frame then still
-/// fits the buffer, and otherwise `None`. `room` is the number of bytes from the open block's code to the end of the
-/// buffer. The `Some` contains the length of the first run of `source`, so that the encoder needn't search for the end
-/// of this run again. If the function didn't search for the end of the first run, the `Some` contains 0.
+/// Returns `Some` if the frame still fits the buffer after `source` is appended to an open block of `taken` bytes, and
+/// otherwise returns `None`. `room` is the number of bytes from the open block's code to the end of the buffer. The
+/// `Some` contains the length of the first run of `source`, so that the encoder needn't search for the end of this run
+/// again. If the function didn't search for the end of the first run, the `Some` contains 0.
 ///
 /// The function counts all full blocks except a full block at the end of the frame. In each step, it looks at the bytes
 /// that would fill the open block. If there is a zero among these bytes, the block doesn't become full, and the
 /// function continues after the last of these zeros. If there is no zero among these bytes, the function searches for
-/// the end of the run. The run then fills the open block, and each further 254 bytes of the run fill another block.
+/// the end of the run. The run then fills the open block, and every further 254 bytes of the run fill another block.
 #[inline(never)]
 #[tactic(auto, using(crate::proofs::encoding::RoomLemmas::counted))]
 fn fits(taken: u8, source: &[u8], room: usize) -> Option<usize>
@@ -128,10 +128,10 @@ fn fits(taken: u8, source: &[u8], room: usize) -> Option<usize>
 /// Appends `source` to the message as [`append`] does, if the frame then fits `dest`. Returns whether the frame fits;
 /// if it doesn't, nothing has changed.
 ///
-/// Among all messages of one length, those without zeros have the longest frames. Usually `dest` has room even for such
-/// a frame, so the frame of `source` fits too. Otherwise the function calls [`fits`], which is slower. If [`fits`] has
-/// found the end of a long first run, the function doesn't search for this end again. The function isn't inlined, so
-/// that a short push doesn't save registers for it.
+/// Among all messages of the same length, those without zeros have the longest frames. Usually `dest` has room even for
+/// such a frame, so the frame of `source` fits too. Otherwise the function calls [`fits`], which is slower. If [`fits`]
+/// has found the end of a long first run, the function doesn't search for this end again. The function isn't inlined,
+/// so that a short push doesn't save registers for it.
 #[inline(never)]
 #[tactic(auto, using(crate::proofs::encoding::TakingLemmas::short_room))]
 pub(crate) fn try_append(source: &[u8], dest: &mut [u8], encoder: &mut UnbufferedEncoder) -> bool

@@ -13,8 +13,7 @@ use cobs_bytes::window::has_vectors;
 /// length in bytes.
 ///
 /// The frame is the one that [`encode`] writes, with each byte XORed with `sentinel`. So no byte of the frame is the
-/// sentinel. No sentinel is written before or after the frame, and the bytes of `dest` after the frame stay as they
-/// were.
+/// sentinel. No sentinel is written before or after the frame, and the bytes of `dest` after the frame stay unchanged.
 ///
 /// Precondition: the frame fits `dest`. The frame always fits if the length of `dest` is at least
 /// [`max_encoding_length(source.len())`](crate::max_encoding_length).
@@ -80,8 +79,8 @@ pub fn try_encode_with_sentinel(
 
 /// Writes a 0, the encoded frame of `source` and another 0 to the front of `dest`, and returns how many bytes it wrote.
 ///
-/// The bytes of `dest` after the second 0 stay as they were. As in the Rust crate `cobs`, one sentinel is before the
-/// frame and one is after it.
+/// The bytes of `dest` after the second 0 stay unchanged. As in the Rust crate `cobs`, one sentinel is before the frame
+/// and one is after it.
 ///
 /// Precondition: the frame and both sentinels fit `dest`. They always fit if the length of `dest` is at least
 /// [`max_encoding_length(source.len())`](crate::max_encoding_length) plus 2. If you don't know whether the frame and

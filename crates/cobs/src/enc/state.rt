@@ -98,12 +98,12 @@ impl Default for EncoderState {
 impl Clone for EncoderState {
     ghost use Rattle.std.specs.Prelude.{◌≡◌, Ok, ⊤};
 
-    // For generic code: a clone equals the state, and `clone` never fails.
+    // Generic code can rely on two facts: a clone equals the state, and `clone` never fails.
     ghost is_clone = { λ state copy. copy ≡ state };
 
     ghost is_infallible = { λ _. ⊤ };
 
-    /// Returns an equal state. This call doesn't allocate, so the result is always `Ok`.
+    /// Returns a copy of the state. This call doesn't allocate, so the result is always `Ok`.
     ///
     /// ```
     /// let mut state = EncoderState::default();
@@ -123,8 +123,8 @@ impl Clone for EncoderState {
 }
 
 impl EncoderState {
-    /// Returns whether another byte can be pushed, whatever its value is. It can be pushed if the index of a block that
-    /// begins after this byte would fit a `usize`. The Rust crate `cobs` has no such call.
+    /// Returns whether another byte can be pushed, whatever its value is. It can be pushed if the index after this
+    /// byte, at which a block may begin, fits a `usize`. The Rust crate `cobs` has no such call.
     ///
     /// ```
     /// assert!(rt; EncoderState::default().can_push());

@@ -56,8 +56,8 @@ pub fn law_15()
 /// come. Then the length of the encoded frame of the whole message is the sum of two numbers. The first number is the
 /// index of the open block. The second number is the length of the encoded frame of another message. This other message
 /// consists of the bytes that the open block has after its code, followed by the bytes that are still to come. The
-/// clause `goes_on` states this sum, but with a list `a` instead of the bytes after the open block's code: `a` may be
-/// any list of the same number of nonzero bytes.
+/// clause `goes_on` states this sum, but it has a list `a` in place of the bytes after the open block's code. The list
+/// `a` may have any nonzero bytes, as many as the open block has after its code.
 ///
 /// So an encoder of your own that writes blocks in this way writes the frames that [`encode`](crate::encode) writes.
 ///
@@ -153,9 +153,10 @@ pub fn law_18()
 /// How to find the kind of a frame, block by block.
 ///
 /// A frame is canonical if it is the frame that encoders write for its message. A single block is a canonical frame. A
-/// block followed by further bytes is a frame if and only if the further bytes are a frame. This frame is canonical if
-/// and only if the further bytes are a canonical frame, with one exception: a full block followed by nothing but the
-/// lone block `01` isn't canonical. If there are fewer bytes than the first code says, the bytes aren't a frame.
+/// block followed by further bytes is a frame if and only if the further bytes are a frame. The whole frame is
+/// canonical if and only if the further bytes are a canonical frame, with one exception: a full block followed by
+/// nothing but the lone block `01` isn't canonical. If there are fewer bytes than the first code says, the bytes aren't
+/// a frame.
 ///
 /// So a reader of your own that goes from code to code can find out whether bytes are a frame, and what kind of frame
 /// they are.
@@ -186,8 +187,8 @@ pub fn law_19()
 /// A piece is whole if its last block is complete. The kept output of a piece is its output without the bytes of an
 /// incomplete last block. A single block is whole, and its output is its bytes without the code. A piece that consists
 /// of a block and further bytes is whole if and only if the further bytes are whole. The kept output of this piece
-/// consists of the output of the block, a zero unless the block is full, and the kept output of the further bytes. If a
-/// piece has fewer bytes than its first code says, it isn't whole, and its kept output is empty. The kept output of a
+/// consists of the output of the block, a zero (unless the block is full), and the kept output of the further bytes. If
+/// a piece has fewer bytes than its first code says, it isn't whole, and its kept output is empty. The kept output of a
 /// whole piece is its output.
 ///
 /// So a decoder of your own that goes from code to code can write the bytes that
@@ -218,11 +219,11 @@ pub fn law_20()
 
 /// A loop over the pieces of a stream.
 ///
-/// Assume that an idle decoder decodes the first piece of a stream with `feed_piece`. The *rest* of the stream is the
-/// bytes after the zero that ends this piece. The outcomes of the stream are the outcome of the first piece, followed
-/// by the outcomes of the rest. The unended bytes of a stream are the bytes after its last zero, or all bytes if it has
-/// no zero. The whole stream has the same unended bytes as the rest. If no piece ends, the stream has no outcome, and
-/// the unended bytes have been fed to the decoder.
+/// Assume that an idle decoder decodes the first piece of a stream with `feed_piece`. The *rest* of the stream consists
+/// of the bytes after the zero that ends this piece. The outcomes of the stream are the outcome of the first piece,
+/// followed by the outcomes of the rest. The unended bytes of a stream are the bytes after its last zero, or all bytes
+/// if it has no zero. The whole stream has the same unended bytes as the rest. If no piece ends, the stream has no
+/// outcome, and the unended bytes have been fed to the decoder.
 ///
 /// So the invariant of a loop over `feed_piece` is one equation: the outcomes found so far, followed by the outcomes of
 /// the remaining bytes, are the outcomes of the stream.

@@ -21,7 +21,7 @@ use Rattle.cobs_bytes.specs.Bytes.{HasNoZero}
 use Rattle.cobs_bytes.specs.Mask.{lowest, zero_mask}
 use Rattle.cobs_bytes.proofs.bytes.ListLemmas.{length-ones}
 
--- std's mask `mask_l` of the results of a test, if the test of a byte is whether the byte is 0, is `zero_mask`
+-- if a test says of each byte whether it is 0, std's mask `mask_l` of the results of the test is `zero_mask`
 pub zero_mask-lanes : (bytes : List ℕ) → mask_l (map (λ b. eqb b 0) bytes) ≡ zero_mask bytes
 zero_mask-lanes [] = refl
 zero_mask-lanes (b ∷ bytes) = grind (arith, zero_mask-lanes bytes)
@@ -59,7 +59,7 @@ pub zero_mask-clear : (bytes : List ℕ) → HasNoZero bytes → zero_mask bytes
 zero_mask-clear [] nz = refl
 zero_mask-clear (b ∷ bytes) nz = grind (arith, All-tail, clear_if, All-head, zero_mask-clear bytes (All-tail (λ b. b ≢ 0) b bytes nz))
 
--- how many bytes are before the first zero
+-- how many bytes are before the first zero, or the number of all bytes if there is no zero
 abbrev pub nonzero_len : List ℕ → ℕ
 nonzero_len bytes = prefix_len (λ b. not (eqb b 0)) bytes
 
@@ -76,13 +76,13 @@ nonzero_len-before bytes some = grind (arith, nonzero_len, nonzero_len-lt, lengt
 pub nonzero_len-at : (bytes : List ℕ) → zero_mask bytes ≢ 0 → get_or bytes (nonzero_len bytes) 0 ≡ 0
 nonzero_len-at bytes some = grind (arith, eqb-true, not-false, prefix_len_stops, nonzero_len-lt)
 
--- the number of the lowest set bit is the index of the first zero
+-- if the mask isn't 0, the number of its lowest set bit is the index of the first zero
 pub lowest_bit : (bytes : List ℕ) → length bytes ≤ 64 → zero_mask bytes ≢ 0 → count_trailing_zeros 64 (zero_mask bytes) ≡ nonzero_len bytes
 lowest_bit bytes few some =
     grind (arith, trailing_mask_l, zero_mask-lanes bytes)
 
--- the mask of these bytes after d nonzero bytes (the definition has ones for them). A loop that removes set bits one by
--- one has this mask after the first d bytes.
+-- the mask of d nonzero bytes followed by these bytes (the definition has ones for the nonzero bytes). If a loop
+-- removes the set bits one by one, this is its mask once the bits of the first d bytes are removed.
 abbrev pub mask_behind : ℕ → List ℕ → ℕ
 mask_behind d bytes = zero_mask (replicate d 1 ++ bytes)
 
@@ -131,7 +131,7 @@ less-odd m z is =
     -- m is 1 + 2 * z and m - 1 is 0 + 2 * z: their lowest bits give 0, and their other bits are both z (`and-step`)
     ap (bit_and m) less ∙ ap (λ k. bit_and k (0 + 2 * z)) is ∙ and-step 1 0 z z (omega arith) (omega arith) ∙ omega (arith, and_self z)
 
--- for an even number 2 * z, the lowest set bit is removed from z
+-- for an even number 2 * z, this is twice the number z without its lowest set bit
 less-even : (m z : ℕ) → z ≢ 0 → m ≡ 2 * z → bit_and m (m - 1) ≡ 2 * bit_and z (z - 1)
 less-even m z some is =
     let all : m ≡ 0 + 2 * z = omega arith in
@@ -147,15 +147,15 @@ mask-and (b ∷ bytes) some =
       -- the first byte is the first zero
       | inl is ↦ (let here = set_if b is in
           let none : nonzero_len (b ∷ bytes) ≡ 0 = ap (λ t. cond (not t) (1 + nonzero_len bytes) 0) (eq-eqb b 0 is) in
-          -- the mask is odd, so it loses its bit 0 (`less-odd`); the first zero has index 0 (`none`)
+          -- the mask is odd (`here`), so it loses its bit 0 (`less-odd`); the first zero has index 0 (`none`)
           less-odd (zero_mask (b ∷ bytes)) (zero_mask bytes) (omega arith) ∙ ap (λ k. mask_behind (k + 1) (drop (k + 1) (b ∷ bytes))) (sym none))
       -- the first byte isn't 0, so the first zero is among the other bytes; `more` says that its index is one higher in
       -- `b ∷ bytes`
       | inr other ↦ (let here = clear_if b other in
           let more : suc (nonzero_len bytes + 1) ≡ nonzero_len (b ∷ bytes) + 1 = omega (arith, ap (λ t. cond (not t) (1 + nonzero_len bytes) 0) (ne_eqb b 0 other)) in
           let rest : zero_mask bytes ≢ 0 = λ e. some (omega arith) in
-          -- the mask is twice the mask of the other bytes, which loses its lowest bit by induction; `mask_behind-more`
-          -- counts one nonzero byte more before the bytes that are left
+          -- the mask is twice the mask of the other bytes (`here`), which loses its lowest bit by induction;
+          -- `mask_behind-more` counts one nonzero byte more before the bytes that are left
           less-even (zero_mask (b ∷ bytes)) (zero_mask bytes) rest (omega arith) ∙ ap (λ m. 2 * m) (mask-and bytes rest)
           ∙ sym (mask_behind-more (nonzero_len bytes + 1) (drop (nonzero_len bytes + 1) bytes)) ∙ ap (λ k. mask_behind k (drop k (b ∷ bytes))) more)
     ]

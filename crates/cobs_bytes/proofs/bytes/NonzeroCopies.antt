@@ -22,9 +22,9 @@ module _ (source : List ℕ) (done start n : ℕ) (inside : start + n ≤ length
   more-nonzero first next = All-from_get_or (λ b. b ≢ 0) (take (start + n) source) 0 (λ i lt.
       grind (arith, places, All-get_or (λ b. b ≢ 0) (take done source) i 0, All-get_or (λ b. b ≢ 0) (take n (drop start source)) (i - start) 0))
 
--- The `len` bytes from index `read` on are copied to index `at`, by two stores of n bytes, which may overlap: the first
--- stores the first n bytes, the second stores the last n bytes, which begin at index `from`, at index `to`. Together
--- they are one copy of the `len` bytes.
+-- The `len` bytes from index `read` on are copied to index `at` by two stores of n bytes, which may overlap. The first
+-- store writes the first n bytes. The second store writes the last n bytes, which begin at index `from` of the source,
+-- to index `to`. Together the two stores are one copy of the `len` bytes.
 pub two-copied : (source dest : List ℕ) (read at len n from to end : ℕ) → read + len ≤ length source → at + len ≤ length dest → n ≤ len → len ≤ n + n
     → from + n ≡ read + len → to + n ≡ at + len → end ≡ at + len
     → put_chunk to (put_chunk at dest (take n (drop read source))) (take n (drop from source)) ≡ take at dest ++ (take len (drop read source) ++ drop end dest)

@@ -161,7 +161,7 @@ fn a_line_is_opened_again_after_a_hang_up(rt: HostRuntime) -> Result<(), Fail> {
     let mut output = BufWriter::new(alloc, Vec::new(alloc))?;
     let shown = show(alloc, &mut input, &mut output)?;
     assert_eq!(rt; shown, Err(WatchFault::ReadFailed));
-    // After a hang-up the bytes up to the first zero are skipped, so the frame `\x03b\x00` isn't shown.
+    // After a hang-up the bytes up to the first zero are skipped, so the broken piece `\x03b` isn't shown.
     assert_eq!(rt;
         output.get_ref().as_slice(),
         b"message 1 61\nunfinished\nhung up\nmessage 2 6869\nunfinished\nhung up\n\
@@ -171,7 +171,7 @@ fn a_line_is_opened_again_after_a_hang_up(rt: HostRuntime) -> Result<(), Fail> {
     Ok(())
 }
 
-/// A frame. Before each of its bytes, the line hangs up or a read fails.
+/// A frame and its zero. Before each of these bytes, the line hangs up or a read fails.
 const CUT: &[u8] = b"\x03ab\x05cdef\x00";
 
 /// The text for a hang-up, by style: first if no frame had begun, and then if a frame had begun. `Raw`, `Bytes` and

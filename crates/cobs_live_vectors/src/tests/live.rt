@@ -1,5 +1,5 @@
-//! Tests how many bytes had been written when the last read began. The first test cuts the stream at each place, and
-//! shows the part before the cut.
+//! Tests how many bytes had been written when the last read began. The first test cuts the stream at each place inside
+//! it, and shows the part before the cut.
 
 use super::{SENT, STREAM, settings, timer, written_after};
 use crate::recorder::{Recorder, send_recorded, show_recorded};

@@ -1,6 +1,6 @@
 // Made by bindings/rust/translate.py from `crates/cobs_bytes/src/lanes.rt`: change that file, and run it again.
-//! Functions over any number of bytes. They copy bytes, copy bytes only if none of them is the sentinel, XOR bytes, or
-//! move bytes within one buffer. The old place and the new place of moved bytes may overlap.
+//! Functions that copy bytes, copy up to 64 bytes only if none of them is the sentinel, XOR bytes, or move bytes within
+//! one buffer. The old place and the new place of moved bytes may overlap.
 
 use crate::proved::cobs_bytes::window::{WIDE_WINDOW, by_width};
 use crate::simd::*;

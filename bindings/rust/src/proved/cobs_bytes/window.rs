@@ -1,5 +1,6 @@
 // Made by bindings/rust/translate.py from `crates/cobs_bytes/src/window.rt`: change that file, and run it again.
-//! Functions that find zeros, and copy and write up to 64 bytes, in SIMD vectors.
+//! Functions that use SIMD vectors to find zeros among up to 64 bytes, to compare bytes, and to copy or write up to 64
+//! bytes.
 
 use crate::simd::*;
 

@@ -6,9 +6,9 @@ use crate::proved::dec::frame_decoder::PieceEnd;
 use crate::proved::error::{DecodeError, DecodeReport};
 use crate::proved::find::{leading_zeros, len_to, len_to_zero};
 
-/// Decodes the first `end` bytes of the buffer as one frame, in the buffer itself and one byte at a time. Returns the
-/// message's length in bytes. The message is then at the front of the buffer, and every byte after the message is as it
-/// was. The code of this function is small, and uses no SIMD vectors.
+/// Decodes the first `end` bytes of the buffer in place, as one frame and one byte at a time. Returns the message's
+/// length in bytes. The message is then at the front of the buffer, and every byte after the message is unchanged. The
+/// code of this function is small, and uses no SIMD vectors.
 ///
 /// Precondition: the buffer has at least `end` bytes, and none of its first `end` bytes is a zero.
 /// `len_to_zero` returns the number of bytes before the first zero.

@@ -31,18 +31,18 @@ fn decode_blocks(source: &[u8], dest: &mut [u8], sentinel: u8) -> Result<usize, 
 ///
 /// The frame ends at the source's first sentinel, or at the end of the source. Each byte of the frame is XORed with the
 /// sentinel before it is decoded. After the call, `dest` begins with the message, and every byte of `dest` after the
-/// message is as it was. Unlike [`decode`](crate::decode), this function reads a leading sentinel as an empty message,
-/// and returns 0.
+/// message is unchanged. Unlike [`decode`](crate::decode), this function reads a leading sentinel as an empty message.
+/// It then returns 0.
 ///
 /// # Errors
 ///
-/// - `EmptyFrame` if the source is empty. Then `dest` is as it was.
+/// - `EmptyFrame` if the source is empty. Then `dest` is unchanged.
 /// - `TargetBufTooSmall` if the message is longer than `dest`, or if the frame breaks off and the output of the frame's
 ///   whole blocks is longer than `dest`. In both cases `dest` is filled with the first bytes of the message or of this
 ///   output.
 /// - `InvalidFrame` if the frame breaks off inside a block and the output of the frame's whole blocks fits `dest`. Then
 ///   `dest` begins with this output, `decoded_bytes` is the length of the output, and every byte of `dest` after the
-///   output is as it was. If the block before the broken block isn't full, the output ends with the zero that joins the
+///   output is unchanged. If the block before the broken block isn't full, the output ends with the zero that joins the
 ///   two blocks.
 ///
 /// Cheshire and Baker's paper describes how frames are encoded with a sentinel other than 0. The results for broken
@@ -60,7 +60,7 @@ pub fn decode_with_sentinel(
         return Err(DecodeError::EmptyFrame);
     }
     let len = len_without_end(source, sentinel);
-    // If the frame is broken, the bytes of `dest` after the output must stay as they were. So a short frame is first
+    // If the frame is broken, the bytes of `dest` after the output must stay unchanged. So a short frame is first
     // decoded into the local buffer `short`.
     let mut short = [0; WIDE_WINDOW];
     if len <= dest.len() + 1 && decode_span(&source[..len], &mut short, sentinel) == Some(0) {

@@ -66,8 +66,8 @@ impl PieceEnd {
 /// ```
 pub trait FrameDecoder {
     /// Decodes the next byte of the stream. The results and errors are those of
-    /// [`CobsDecoder::feed`](crate::CobsDecoder::feed). As long as the output of the piece fits the buffer, the fed
-    /// byte changes the decoder's state in the same way as it changes a [`DecoderState`](crate::DecoderState).
+    /// [`CobsDecoder::feed`](crate::CobsDecoder::feed). As long as the output of the piece fits the buffer, the byte
+    /// changes the decoder's state in the same way as it would change a [`DecoderState`](crate::DecoderState).
     ///
     /// ```
     /// use jcobs::{CobsDecoderHeapless, FrameDecoder};
@@ -85,7 +85,7 @@ pub trait FrameDecoder {
     ///   The bytes after that zero had no effect. So the caller continues with the byte at index `count`, even if the
     ///   piece is too long for the buffer.
     ///
-    /// The bytes of the buffer after the piece's output are as they were.
+    /// The bytes of the buffer after the piece's output are unchanged.
     ///
     /// An implementation doesn't have to define this method: the provided method feeds one byte after another. The
     /// decoders of this library have their own `feed_piece`, which copies many bytes in one step on targets with SIMD

@@ -1,6 +1,6 @@
 // Made by bindings/rust/translate.py from `crates/cobs/src/dec/span.rt`: change that file, and run it again.
-//! Functions that go through a piece from code to code, either in bytes that were copied or in the last bytes of the
-//! piece.
+//! Functions that go from code to code through a part of a piece. The part is either a copy of some bytes, or the last
+//! bytes of the piece.
 
 use crate::proved::block::FULL_BLOCK_BYTES;
 use crate::proved::cobs_bytes::lanes::copy_xored_short;
@@ -11,9 +11,9 @@ use crate::proved::error::DecodeError;
 /// next block's code isn't in that span.
 pub(crate) const SPAN_MAX: usize = FULL_BLOCK_BYTES - 1;
 
-/// Writes a zero over each code in `dest`. `dest` contains the bytes of a piece that follow the code `first`. The
-/// caller ensures that no code in `dest` follows a full block, since the output has no zero after a full block. Returns
-/// the code of the last block, and how many bytes of this block are missing.
+/// Writes a zero over each code in `dest`. `dest` contains the bytes of a piece that follow the code `first`. If no
+/// code in `dest` follows a full block, `dest` then contains the output of these bytes. (The output has no zero after a
+/// full block.) Returns the code of the last block, and how many bytes of this block are missing.
 // Compilers turn this recursion into a loop that advances the address of the remaining bytes. A loop over an index
 // would add the index to an address before each load. Since the load of each code waits for the preceding code, this
 // addition would cost a cycle per code.
@@ -52,9 +52,9 @@ pub(crate) fn write_zeros_at_copied(
 }
 
 /// Decodes up to seven rows from the front of `bytes`, and returns the number of bytes that it decoded. A row consists
-/// of 32 blocks, each with the code 01. `byte` is this code, XORed with the sentinel. For each code the function writes
-/// a zero to `dest`, from index `at` on. It stops before 32 bytes that aren't a row, and before a row for which `dest`
-/// has no room. The limit is seven rows, because eight rows would be longer than a span.
+/// of 32 blocks, each with the code 01. `byte` is this code, XORed with the sentinel. For each code, the function
+/// writes a zero to `dest`, from index `at` on. It stops if the next 32 bytes aren't a row, or if `dest` has no room
+/// for another row. The limit is seven rows, because eight rows would be longer than a span.
 #[inline(always)]
 pub(crate) fn write_rows(dest: &mut [u8], at: usize, bytes: &[u8], byte: u8) -> usize {
     let most = bytes.len().min(dest.len().saturating_sub(at)).min(SPAN_MAX);
@@ -67,8 +67,8 @@ pub(crate) fn write_rows(dest: &mut [u8], at: usize, bytes: &[u8], byte: u8) -> 
 }
 
 /// Writes a zero over each code in `dest`, as [`write_zeros_at_copied`] does. If `dest` begins with rows of 32 blocks,
-/// each with the code 01, the function replaces each row in one step.
-// In a row it would be slower to go from code to code, because each load would wait for the preceding load. The
+/// each with the code 01, the function writes the zeros of each row in one step.
+// It would be slower to go through a row from code to code, because each load would wait for the preceding load. The
 // function looks for rows only at the front of `dest`, because a test after each code would take longer than decoding
 // the code.
 #[inline(always)]
@@ -105,10 +105,10 @@ pub(crate) fn decode_span(source: &[u8], dest: &mut [u8], sentinel: u8) -> Optio
     Some(left)
 }
 
-/// Returns how many of the last bytes of a piece have to be decoded, and whether the piece is whole. `bytes` are these
-/// last bytes. A whole piece is decoded to its end. A broken piece is decoded up to and including the code of its last
-/// block, because the kept output doesn't include the other bytes of that block. The first `left` bytes of `bytes`
-/// belong to a block that began before `bytes`. Each byte of `bytes` is XORed with the sentinel before it is read.
+/// Returns how many of `bytes`, the last bytes of a piece, have to be decoded, and whether the piece is whole. A whole
+/// piece is decoded to its end. A broken piece is decoded up to and including the code of its last block, because the
+/// kept output doesn't include the other bytes of that block. The first `left` bytes of `bytes` belong to a block that
+/// began before `bytes`. Each byte of `bytes` is XORed with the sentinel before it is read.
 pub(crate) fn kept_len(bytes: &[u8], left: usize, sentinel: u8) -> (usize, bool) {
     let mut at = left;
     while at < bytes.len() {

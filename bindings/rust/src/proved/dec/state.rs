@@ -3,7 +3,7 @@
 
 use crate::proved::error::DecodeError;
 
-/// A decoder's state within a frame.
+/// The state of a decoder between two bytes of a stream.
 ///
 /// The state doesn't hold the output, so a caller can write the decoded bytes to a container of its own.
 ///
@@ -116,7 +116,7 @@ impl DecoderState {
     /// - For a byte inside a block, the result is `DataContinue` with this byte.
     ///
     /// Every state has a result for every byte, even a state that no frame leads to, such as `Grab(255)`. The rules for
-    /// blocks are those of the paper by Cheshire and Baker. The names of the results are those of the Rust crate
+    /// blocks are those of the paper by Cheshire and Baker. The results have the same names as in the Rust crate
     /// `cobs`.
     ///
     /// # Errors

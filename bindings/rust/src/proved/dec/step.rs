@@ -58,9 +58,9 @@ impl UnbufferedDecoder {
     /// assert_eq!(decoder.feed(&mut buffer, 0), Ok(Some(2)));
     /// assert!(buffer.starts_with(&[7, 8]));
     /// ```
-    // The case of a byte inside a block has a separate return, because the returned value needs no comparison with the
-    // buffer's length in this case. With one return for all cases, compilers generate more instructions for a call with
-    // one byte.
+    // If the byte is inside a block, the function returns early, because in this case the returned value needs no
+    // comparison with the buffer's length. With one return for all cases, compilers generate more instructions for a
+    // call with one byte.
     #[inline(always)]
     pub fn take_byte(&mut self, dest: &mut [u8], byte: u8) -> usize {
         let room = dest.len();

@@ -31,9 +31,9 @@ use crate::proved::find::{front_len, leading_zeros, position_or_len};
 ///
 /// A decoder consists of four numbers, and has the layout of a C struct. All four numbers are 0 before a piece begins.
 /// Every call is safe, whatever the numbers are.
-// No number says whether a piece has begun, because the step for a nonzero byte doesn't depend on this. `missing` says
-// whether the byte is a code. `joint` says whether the output has a zero before the block of this code. The first code
-// of a piece is decoded like a code after a full block: the output has no zero before the first block.
+// No number says whether a piece has begun: the step for a nonzero byte doesn't depend on that. `missing` says whether
+// that byte is a code. `joint` says whether the output has a zero before the block of this code. The first code of a
+// piece is decoded like a code after a full block: the output has no zero before the first block.
 #[repr(C)]
 #[derive(Debug, Clone, Copy, PartialEq, Eq, Hash)]
 pub struct UnbufferedDecoder {
@@ -110,8 +110,8 @@ impl UnbufferedDecoder {
     }
 
     /// Decodes the next byte of the stream, with `dest` as the buffer. The results and errors are those of
-    /// [`CobsDecoder::feed`](crate::CobsDecoder::feed). As long as the output of the piece fits the buffer, the fed
-    /// byte changes the decoder's state in the same way as it changes a [`DecoderState`](crate::DecoderState).
+    /// [`CobsDecoder::feed`](crate::CobsDecoder::feed). As long as the output of the piece fits the buffer, the byte
+    /// changes the decoder's state in the same way as it would change a [`DecoderState`](crate::DecoderState).
     ///
     /// ```
     /// use jcobs::UnbufferedDecoder;
@@ -161,8 +161,8 @@ impl UnbufferedDecoder {
         let mut at = 0;
         while at < bytes.len() {
             at += self.take_at_once(dest, &bytes[at..]);
-            // The byte at `at` is a zero, or a byte of a piece that is too long. On a target without vectors, it may be
-            // any byte.
+            // The byte at index `at` is a zero, or a byte of a piece that is too long. On a target without vectors, it
+            // may be any byte.
             if at < bytes.len() {
                 let parsed_size = at + 1;
                 match self.feed(dest, bytes[at]) {
@@ -201,7 +201,8 @@ impl UnbufferedDecoder {
             if self.is_idle() {
                 // If one of the first 66 bytes is a zero, `take_front` decodes the bytes before the first zero, and
                 // then this zero ends the piece. If none of them is a zero, `take_front` decodes all bytes, but only if
-                // there are fewer than 32 bytes. For 32 bytes or more, a search with memchr is faster.
+                // there are fewer than 32 bytes. For 32 bytes or more, a search with memchr is faster. `take_front`
+                // decodes nothing if there are fewer than 2 bytes to decode, or if `dest` has no room for their output.
                 let front = front_len(bytes);
                 let is_all = front == bytes.len();
                 if (!is_all || front < WINDOW) && self.take_front(dest, &bytes[..front]) {
@@ -223,7 +224,7 @@ impl UnbufferedDecoder {
         if taken == bytes.len() {
             return None;
         }
-        // The byte at `taken` is the zero that ends the open piece.
+        // The byte at index `taken` is the zero that ends the open piece.
         let last = PieceEnd::reported(self.end(dest.len()))?;
         Some((last, taken + 1))
     }
@@ -242,9 +243,9 @@ impl UnbufferedDecoder {
         self.pass_to_end(dest, bytes, taken)
     }
 
-    /// Returns the number of zeros at the front of `bytes` if no piece has begun: these zeros end no piece. If a piece
-    /// has begun, the function returns 0. Some serial lines carry many zeros while no frame is sent. The caller ensures
-    /// that there is at least one byte.
+    /// Returns the number of zeros at the front of `bytes` if no piece has begun, because these zeros then end no
+    /// piece. If a piece has begun, the function returns 0. Some serial lines carry many zeros while no frame is sent.
+    /// The caller ensures that there is at least one byte.
     #[inline(always)]
     fn zeros_outside(&self, bytes: &[u8]) -> usize {
         if bytes[0] == 0 && self.is_idle() {

@@ -1,5 +1,5 @@
 // Made by bindings/rust/translate.py from `crates/cobs/src/dec/whole.rt`: change that file, and run it again.
-//! Decodes a whole frame into another buffer.
+//! Decoding a whole frame into a separate buffer.
 
 use crate::proved::cobs_bytes::window::has_vectors;
 use crate::proved::dec::each::decode_each;
@@ -11,19 +11,19 @@ use crate::proved::find::{leading_zeros, len_without_end};
 /// Decodes the first frame of the source into `dest`, and returns how many bytes of the source were consumed and how
 /// many bytes the message has.
 ///
-/// Leading zeros are skipped. The frame ends at the next zero, or at the source's end if no other zero follows. The
-/// bytes after the next zero have no effect. The first `frame_size` bytes of `dest` are the message, and the other
-/// bytes of `dest` are as they were. `parsed_size` counts the skipped zeros, the frame, and the zero after the frame if
-/// there is one.
+/// Leading zeros are skipped. The frame ends at the next zero, or at the source's end if there is no other zero. The
+/// bytes after the zero that ends the frame have no effect. The first `frame_size` bytes of `dest` are the message, and
+/// the other bytes of `dest` are unchanged. `parsed_size` counts the skipped zeros, the frame, and the zero after the
+/// frame if there is one.
 ///
 /// # Errors
 ///
 /// - `EmptyFrame` if the source is empty, and `InvalidFrame` with `decoded_bytes` 0 if the source has only zeros. In
-///   both cases `dest` is as it was.
+///   both cases `dest` is unchanged.
 /// - `TargetBufTooSmall` if the frame decodes to more bytes than `dest` has. `dest` is then filled with the first
 ///   decoded bytes.
 /// - `InvalidFrame` if the frame breaks off inside a block. `dest` then begins with the decoded bytes, including those
-///   of the broken block. `decoded_bytes` is the number of these bytes. The other bytes of `dest` are as they were.
+///   of the broken block. `decoded_bytes` is the number of these bytes. The other bytes of `dest` are unchanged.
 ///
 /// The format is that of Cheshire and Baker's paper. The results for a broken frame are a choice of this library.
 pub fn decode(source: &[u8], dest: &mut [u8]) -> Result<DecodeReport, DecodeError> {
@@ -60,8 +60,8 @@ fn decode_long(source: &[u8], dest: &mut [u8]) -> Result<DecodeReport, DecodeErr
     })
 }
 
-/// Decodes a short frame as [`decode`] does. If the conditions below aren't met, returns `None` and leaves `dest` as it
-/// was.
+/// Decodes a short frame as [`decode`] does. If the conditions below aren't met, returns `None` and leaves `dest`
+/// unchanged.
 ///
 /// The source must consist of `n` nonzero bytes, with or without one zero after them. The number `n` must be from 2 to
 /// 65, and `dest` must have at least `n - 1` bytes. If the target has SIMD vectors, [`decode`] calls this function

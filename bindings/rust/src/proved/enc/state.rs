@@ -77,8 +77,8 @@ impl Default for EncoderState {
 }
 
 impl EncoderState {
-    /// Returns whether another byte can be pushed, whatever its value is. It can be pushed if the index of a block that
-    /// begins after this byte would fit a `usize`.
+    /// Returns whether another byte can be pushed, whatever its value is. It can be pushed if the index after this
+    /// byte, at which a block may begin, fits a `usize`.
     ///
     /// ```
     /// use jcobs::EncoderState;

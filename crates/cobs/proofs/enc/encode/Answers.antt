@@ -1,12 +1,12 @@
--- A message of one window is appended to an empty frame (`start-after`). The other two paths are clauses of
--- `encode_long` and `write_each`.
+-- On a target with SIMD vectors, a new encoder takes a message of 1 to 32 bytes (`start-after`), and `close` completes
+-- the frame. For other messages and other targets, the clauses are those of `encode_long` and `write_each`.
 use Rattle.std.proofs.Common.{arith}
 use Rattle.cobs.proofs.format.SentinelLemmas.{encoded_nonzero}
 use Rattle.cobs.proofs.encoding.TakingLemmas.{start-after}
 use Rattle.cobs.proofs.enc.encode.Goals as goal
 use Rattle.std.proofs.lemmas.Grind.{common_steps}
 
--- the frame of a message of one window
+-- the frame of a message that fits one window
 pub returns-then-source-le-WINDOW-clause-frame : goal.returns-then-source-le-WINDOW-clause-frame
 -- the encoder has taken the source, so `close` makes its frame
 returns-then-source-le-WINDOW-clause-frame c = c.close.ensures.frame c.args.source.now (start-after c.args.dest.now _ c.new.ensures.start (omega arith) c.append_short-encoder.ensures)

@@ -1,6 +1,6 @@
--- A message of fewer than 255 bytes has one code (`encoded_len-short`), and its frame, with each byte XORed with the
--- sentinel, is a frame for that sentinel (`frame_for`). The bytes after the frame are those that `encode` left
--- (`drop-append-drop`).
+-- The frame of a message of fewer than 255 bytes is one byte longer than the message (`encoded_len-short`). This frame,
+-- with each byte XORed with the sentinel, is a frame for that sentinel (`frame_for`). The bytes after the frame are
+-- those that `encode` left (`drop-append-drop`).
 use Rattle.std.proofs.Common.{◌≡◌, ◌≤◌, ◌+◌, ◌++◌, ℕ, List, length, length-take-le, take, take_at, drop, ◌∙◌, arith}
 use Rattle.std.proofs.lemmas.List.{length-map}
 use Rattle.std.proofs.lemmas.Slice.{drop-append-drop}
@@ -35,6 +35,6 @@ returns-clause-rest c =
     let coded : List ℕ = c.encode-len.new.dest in
     let n : ℕ = length c.args.source.now + 1 in
     let len : length c.xor_bytes.new.bytes ≡ n = grind (arith, length-take-le) in
-    -- after the changed bytes, which are n, come the bytes of `encode` from n on
+    -- after the n changed bytes come the bytes from index n on, as `encode` left them
     drop-append-drop n coded c.xor_bytes.new.bytes n (omega arith) len
     ∙ (rw (len-is (goal.at.returns-clause-rest c).After-xor_bytes) at c.encode-len.ensures.rest)

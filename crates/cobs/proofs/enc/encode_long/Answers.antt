@@ -1,5 +1,4 @@
--- The whole source was taken from an encoder that had taken nothing (`start-after`), and closing its last block ends
--- the frame.
+-- A new encoder has taken the whole source (`start-after`), and `close` completes the frame.
 use Rattle.std.proofs.Common.{◌≡◌, [], ◌∙◌, arith}
 use Rattle.std.proofs.lemmas.Grind.{common_steps}
 use Rattle.cobs.proofs.encoding.TakingLemmas.{all-rest, start-after, start-len}

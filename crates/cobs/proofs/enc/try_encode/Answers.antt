@@ -1,5 +1,5 @@
--- The frame was written as for the sentinel 0, which changes no byte (`xor_each-zero`), so it has no zero
--- (`encoded_nonzero`).
+-- `encode_few` has written a frame for the sentinel 0. XOR with 0 changes no byte (`xor_each-zero`), so this is an
+-- encoded frame, and no byte of it is a zero (`encoded_nonzero`).
 use Rattle.std.proofs.Common.{arith}
 use Rattle.cobs.proofs.format.SentinelLemmas.{encoded_nonzero}
 use Rattle.cobs.proofs.enc.try_encode.Goals as goal

@@ -1,5 +1,4 @@
--- The whole source was taken from an encoder that had taken nothing (`start-after`), and closing its last block ends
--- the frame.
+-- `try_append` has encoded the whole source with a new encoder (`start-after`), and `close` completes the frame.
 use Rattle.std.proofs.Common.{◌<◌, ◌∙◌, length, arith}
 use Rattle.cobs.proofs.encoding.TakingLemmas.{start-after, start-len}
 use Rattle.cobs.proofs.format.SentinelLemmas.{encoded_nonzero}

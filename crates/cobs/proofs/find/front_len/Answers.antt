@@ -1,5 +1,6 @@
--- The mask of 32 bytes says at which index their first zero is, or that they have no zero (`Window`). The second window
--- begins at `at`, so that it ends after 64 bytes, or at the end of a shorter source.
+-- A window consists of 32 bytes of the source. The mask of a window says at which index of the window the first zero
+-- is, or that the window has no zero (`Window`). The second window begins at index `at` of the source, so that it ends
+-- after the first 64 bytes of the source, or at the end of a shorter source.
 use Rattle.std.proofs.Common.{◌≡◌, ◌≢◌, ◌<◌, ◌≤◌, ◌+◌, ℕ, List, length, take, drop, get_or, ap, sym, ◌∙◌, arith, length-take-le, length-drop}
 use Rattle.std.proofs.Math.Seq.{take-add}
 use Rattle.std.proofs.lemmas.List.{get_or-take, get_or-drop, take-take}
@@ -11,12 +12,12 @@ use Rattle.cobs_bytes.proofs.bytes.MaskLemmas.{clear_front, lowest-within, lowes
 use Rattle.cobs.proofs.find.front_len.Goals.{After-zeros_at-later}
 use Rattle.cobs.proofs.find.front_len.Goals as goal
 
--- the mask of the zeros in the first 32 bytes
+-- there are at least 32 bytes, and `zeros` is the mask of the zeros in the first 32 bytes
 record Window (bytes : List ℕ) (zeros : ℕ) : Type 0 where
   long : 32 ≤ length bytes
   is : zeros ≡ zero_mask (take 32 bytes)
 
--- the mask isn't 0, and its lowest bit is the window's first zero
+-- if the mask isn't 0, its lowest bit is at the index of the window's first zero
 module _ {bytes : List ℕ} {zeros : ℕ} (w : Window bytes zeros) (some : zeros ≢ 0) where
   -- the first 32 bytes
   abbrev window : List ℕ
@@ -64,7 +65,7 @@ module _ (c : After-zeros_at-later) where
   later : Window (drop at source) c.zeros_at-later.result
   later = grind (arith, length-drop)
 
-  -- if k bytes from `at` on aren't zeros, no byte before their end is a zero
+  -- if the k bytes from index `at` on aren't zeros, none of the first at + k bytes is a zero
   both : (k : ℕ) → HasNoZero (take k (drop at source)) → HasNoZero (take (at + k) source)
   both k after =
       -- the bytes before `at` are in the first window, which has no zero (`none`)
@@ -91,6 +92,7 @@ module _ (c : After-zeros_at-later) where
 -- the first window has a zero
 pub returns-then-zeros-ne0 : goal.returns-then-zeros-ne0
 returns-then-zeros-ne0 c =
+    -- the lemmas `within`, `before` and `stop` apply to the first window (`w`), because its mask isn't 0 (`some`)
     let w : Window c.args.source.now c.zeros_at-zeros.result = record { long = omega arith; is = c.zeros_at-zeros.ensures } in
     let some = c.if-zeros-ne0.true in
     grind (arith, within, before, stop)
@@ -101,6 +103,7 @@ returns-then-later-ne0 c =
     let after = (goal.at.returns-then-later-ne0 c).After-zeros_at-later in
     let w = later after in
     let some = c.if-later-ne0.true in
+    -- the zero is at an index below 32 of the second window
     let lt = within w some in
     record {
       within = omega arith;

@@ -1,5 +1,5 @@
--- The bytes that were passed have no zero (`Searched`). Each iteration passes four bytes, or one byte, that aren't
--- zeros (`next`, `shorter`).
+-- The bytes before the rest, which the loops have tested, have no zero (`Searched`). Each iteration removes four bytes,
+-- or one byte, that aren't zeros from the front of the rest (`next`, `shorter`).
 use Rattle.std.proofs.Common.{◌≡◌, ◌≢◌, ◌+◌, ◌-◌, ◌<◌, ◌≤◌, ℕ, List, length, take, drop, get_or, ap, arith, length-drop, refl, take_all}
 use Rattle.std.proofs.lemmas.List.Elements.{All-nil}
 use Rattle.std.proofs.Math.Seq.{take-add}
@@ -12,7 +12,7 @@ use Rattle.cobs.proofs.find.len_to_zero.Goals as goal
 next : (xs : List ℕ) (n : ℕ) → n < length xs → get_or xs n 0 ≢ 0 → HasNoZero (take n xs) → HasNoZero (take (n + 1) xs)
 next xs n here other front = grind (arith, common_steps)
 
--- the first k bytes of the rest, which aren't zeros, are passed
+-- if the first k bytes of the rest aren't zeros, `Searched` also holds for `after`, the rest without these bytes
 shorter : (bytes rest after : List ℕ) (k : ℕ) → Searched bytes rest → k ≤ length rest → HasNoZero (take k rest) → after ≡ take (length rest - k) (drop k rest) → Searched bytes after
 shorter bytes rest after k s within nonzero is =
     -- the number of bytes before the rest

@@ -1,5 +1,5 @@
--- None of the bytes before the rest is a zero (`Searched`): n is the number of these bytes. Both loops keep this fact,
--- and end because each iteration makes the rest shorter.
+-- None of the bytes before the rest is a zero (`Searched`); in this definition, n is the number of these bytes. Both
+-- loops keep this fact, and end because each iteration makes the rest shorter.
 use Rattle.std.proofs.Common.{◌≡◌, ◌-◌, ◌≤◌, List, ℕ, length, take, drop}
 use Rattle.cobs.specs.Grammar.{HasNoZero}
 use Rattle.cobs.proofs.find.len_to_zero.Given as goal

@@ -1,5 +1,5 @@
--- The first piece and the last piece of a stream. The fields are lemmas on the bytes before a zero (`HeadLemmas`,
--- `OutcomeLemmas`), and lemmas on the last piece (`LastPiece`).
+-- The first piece and the last piece of a stream. The fields are lemmas on the bytes before the first zero
+-- (`HeadLemmas`, `OutcomeLemmas`), and lemmas on the last piece (`LastPiece`).
 use Rattle.cobs.proofs.decoding.HeadLemmas.{first_piece_behind, first_piece_none, first_piece_some, front_is_head}
 use Rattle.cobs.proofs.decoding.OutcomeLemmas.{first_piece_head, head_reads}
 use Rattle.cobs.proofs.decoding.SourceSteps.{xor_head}
@@ -17,7 +17,7 @@ returns c = record {
   head_for = λ t n s. xor_head t n s;
   found = first_piece_some;
   none = first_piece_none;
-  -- a stream without an outcome has no piece that has ended (`no_outcomes`), so its last piece has its unended bytes
+  -- a stream without an outcome has no piece that has ended (`no_outcomes`), so its last piece is its unended bytes
   last = λ t n none. last_piece-unended t (no_outcomes t n none);
   last_ended = λ t n none. last_piece-zero t (no_outcomes t n none);
 }

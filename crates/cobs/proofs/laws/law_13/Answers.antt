@@ -1,5 +1,5 @@
--- The open frame of a streaming encoder: its length follows by `OpenedLemmas`, and how it differs from the encoded
--- frame by `EnumerationLemmas`.
+-- The open frame of a message. The length of the output follows by `OpenedLemmas`, the difference between the open
+-- frame and the encoded frame by `EnumerationLemmas`, and the clause `end` by `end-is` of `AfterLemmas`.
 use Rattle.std.proofs.Common.{sym}
 use Rattle.cobs.proofs.encoding.AfterLemmas.{end-is}
 use Rattle.cobs.proofs.format.EnumerationLemmas.{open_longer, open_shorter}

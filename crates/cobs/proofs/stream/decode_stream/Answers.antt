@@ -38,7 +38,7 @@ by_piece-preserved g c = record {
   same_loan = grind arith;
 }
 
--- a piece that ended has at least one byte, its zero, so fewer bytes are left
+-- the call that ended a piece consumed at least one byte, the zero after the piece, so fewer bytes are left
 pub by_piece-smaller : goal.by_piece-smaller
 by_piece-smaller g c = grind (arith, piece_count)
 

@@ -1,6 +1,6 @@
 -- The outcomes of the pieces among the first `at` bytes are in the list (`TakesBytes`), and the decoder still uses the
--- buffer that it was lent before the call (`same_loan`). The loop ends, because each piece that ends has at least one
--- byte.
+-- buffer that it was lent before the call (`same_loan`). The loop ends, because each iteration consumes at least one
+-- byte, the zero that ends a piece.
 use Rattle.std.proofs.Common.{◌≡◌, ◌≤◌, ◌-◌, length, take}
 use Rattle.cobs.specs.Messages.{outcomes_in}
 use Rattle.cobs.specs.FeedPiece.{TakesBytes}

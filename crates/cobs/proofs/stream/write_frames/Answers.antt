@@ -39,6 +39,7 @@ overflow_add-end-in-by_message c = grind (arith, fits)
 -- the frame of one more message and a zero are written
 pub by_message-preserved : goal.by_message-preserved
 by_message-preserved c =
+    -- the frame and the zero fit (`f`), and the slice that was encoded has the bytes of the message (`e`)
     let f = fits (goal.at.by_message-preserved c).After-encode-len in
     let e = c.deref.ensures.value in
     let len : c.encode-len.result < length c.encode-len.new.dest = omega arith in

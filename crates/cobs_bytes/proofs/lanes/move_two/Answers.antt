@@ -1,6 +1,6 @@
 -- The first and the last N of the moved bytes are stored at the front of the buffer. Both vectors are loaded before
--- either is stored, so both contain bytes of the buffer before the call, and `two-copied` is about one list as source
--- and as destination.
+-- either is stored, so both contain bytes of the buffer before the call. So `two-copied` is used with this buffer as
+-- the source and as the destination.
 use Rattle.std.proofs.Common.{arith}
 use Rattle.cobs_bytes.proofs.bytes.NonzeroCopies.{two-copied}
 use Rattle.cobs_bytes.proofs.lanes.move_two.Goals as goal

@@ -11,7 +11,7 @@ use Rattle.cobs_c.proofs.SourceLemmas.{result-some, report_result-err}
 use Rattle.cobs_c.proofs.decode.rejected.Goals as goal
 
 -- `message` and `message'` are the buffer before and after the call of `decode`; `long` says that it has `room` bytes,
--- and `written` what was written to it
+-- and `written` says what was written to it
 pub returns : goal.returns
 returns c message message' long written =
     -- n is the length of the buffer, and `found` says which piece `first_piece_end` found: the piece, the fact that it

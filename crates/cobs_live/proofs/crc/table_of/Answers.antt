@@ -1,4 +1,4 @@
--- The entries before the index are right, and so is the entry that is set at the index (`below_more`).
+-- The entries for the numbers below `byte` are right, and so is the entry that is set for `byte` (`below_more`).
 use Rattle.std.proofs.Common.{arith, length-set}
 use Rattle.std.proofs.lemmas.Grind.{get_or-set_at}
 use Rattle.std.proofs.lemmas.List.{get_or-set_other}

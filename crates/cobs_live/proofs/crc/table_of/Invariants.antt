@@ -1,4 +1,4 @@
--- The table has 256 words, and those of the bytes before the loop's `byte` are made (`word_of`).
+-- The table has 256 words, and those for the numbers below `byte` are made (`word_of`).
 use Rattle.std.proofs.Common.{◌≡◌, ◌<◌, ℕ, length}
 use Rattle.std.specs.Prelude.{get_or}
 use Rattle.cobs_live.specs.Crc.{word_of}

@@ -1,4 +1,4 @@
--- The bytes before the index are changed to characters, and the others are as they were.
+-- The bytes that the loop has gone through are changed to characters, and the others are as they were.
 use Rattle.std.proofs.Common.{◌≡◌, ◌++◌, map, take, drop}
 use Rattle.cobs_live.specs.Dump.{character}
 use Rattle.cobs_live.proofs.dump.to_characters.Given as goal

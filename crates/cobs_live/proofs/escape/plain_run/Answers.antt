@@ -1,4 +1,4 @@
--- A plain byte is ASCII (`plain_below`), so the index after it is the start of a character.
+-- A plain byte is ASCII (`plain_below`), so a character begins or the text ends at the index after it.
 use Rattle.std.proofs.Common.{IsTrue, get_or, arith, rules}
 use Rattle.std.proofs.lemmas.List.Elements.{All-more}
 use Rattle.std.proofs.lemmas.Str.{IsCharBoundary-after_ascii, IsCharBoundary-start}
@@ -6,7 +6,7 @@ use Rattle.cobs_live.specs.Escaped.{is_plain_byte}
 use Rattle.cobs_live.proofs.EscapeLemmas.{plain_below}
 use Rattle.cobs_live.proofs.escape.plain_run.Goals as goal
 
--- before the first byte, index 0 is the start of a character, or the end of the text
+-- before the first byte, a character begins or the text ends at index 0
 pub loop-i-init : goal.loop-i-init
 loop-i-init c = grind (arith, IsCharBoundary-start)
 

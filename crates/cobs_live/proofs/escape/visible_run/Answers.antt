@@ -25,7 +25,8 @@ pub by_char-preserved : goal.by_char-preserved
 by_char-preserved c =
     let text : List ℕ = c.args.text.now in
     let run : ℕ = c.by_char.run in
-    -- the bytes after the character, the index at which they begin (`at`), and the number of plain bytes there (`more`)
+    -- the bytes after the character, the index at which they begin (`at`), and the number of plain bytes at their front
+    -- (`more`)
     let rest : List ℕ = c.next.new.self.rest.now in
     let at : ℕ = run + c.len_utf8-run.result in
     let more : ℕ = c.plain_run-run-in-by_char.result in

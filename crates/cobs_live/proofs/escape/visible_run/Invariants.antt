@@ -1,4 +1,4 @@
--- The first `run` bytes are the same in the escaped text (`same`), and they end between two characters (`boundary`).
+-- The first `run` bytes are the same in the escaped text (`same`), and they end at a character boundary (`boundary`).
 -- The loop ends, because each iteration makes the run longer.
 use Rattle.std.proofs.Common.{◌≡◌, ◌-◌, ◌++◌, length, take, drop}
 use Rattle.std.specs.Str.{IsCharBoundary}

@@ -1,5 +1,5 @@
--- The text of each kind is the fixed text that is written first, followed by the bytes that the next call writes
--- (`behind`, `behind_two`).
+-- The text of each kind is the text that is written first, followed by the text that the next call writes (`behind`,
+-- `behind_two`).
 use Rattle.std.proofs.Common.{ℕ, List, ◌++◌, append_assoc, codes, subst, Option, Result}
 use Rattle.std.specs.Prelude.{OnOk}
 use Rattle.std.specs.Fmt.{decimal}

@@ -1,4 +1,4 @@
--- The digits so far are those of the bytes before the index (`digits_of`).
+-- The digits so far are those of the bytes that the loop has gone through (`digits_of`).
 use Rattle.std.proofs.Common.{◌≡◌, take}
 use Rattle.cobs_live.specs.Sent.{digits_of}
 use Rattle.cobs_live.proofs.send.digits_of.Given as goal

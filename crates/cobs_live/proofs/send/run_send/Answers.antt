@@ -42,7 +42,8 @@ by_line-preserved g c =
     let line : List ℕ = c.read_line_beside.new.line.items in
     let start : c.clear.new.self.items ≡ [] = c.clear.ensures.items in
     let some : line ≢ [] = (λ none. let more = c.if-count-eq0.false in let l : length line ≡ 0 = ap length none in absurd (more (omega (arith, c.in-Ok.ensures.ok, c.clear.ensures.len, l, c.read_line_beside.new.line.ok.0)))) in
-    -- the line ends at the first newline (`stops`, `through`), and the read consumed exactly its bytes (`consumed`)
+    -- the line ends at the first newline or at the end of the input (`stops`, `through`), and the read consumed exactly
+    -- its bytes (`consumed`)
     let stops : StopsAt line 10 = rw start at c.in-Ok.ensures.stops in
     let through : IfSome (g.S.LiveLines.remaining c.by_line.input) (λ xs. line ≡ take_through 10 xs) = rw start at c.in-Ok.ensures.bytes in
     let consumed : Consumes (g.S.LiveLines.remaining c.by_line.input) (g.S.LiveLines.remaining c.read_line_beside.new.self) line = rw start at c.in-Ok.ensures.none_lost in

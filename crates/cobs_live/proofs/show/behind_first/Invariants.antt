@@ -1,5 +1,5 @@
--- No byte before index i is a zero. So for the bytes from index i on and for all bytes, the same bytes follow the first
--- zero (`begun`), and bytes are still skipped afterwards or not in the same way (`skips`). Bytes were skipped before
+-- No byte before index i is a zero. So the bytes from index i on have the same bytes after their first zero as all
+-- bytes have (`begun`), and `skips_on` returns the same for them as for all bytes (`skips`). Bytes were skipped before
 -- the call (`awaited`).
 use Rattle.std.proofs.Common.{◌≡◌, true, drop}
 use Rattle.cobs_live.specs.Watched.{begun, skips_on}

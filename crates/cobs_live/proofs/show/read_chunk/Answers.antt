@@ -1,5 +1,5 @@
 -- Each try adds one read to the earlier reads, which had no result (`once-more`). The call ends with the first read
--- that isn't interrupted, so at most this read has a result.
+-- that isn't interrupted, or after the greatest number of tries. So at most the last read has a result.
 use Rattle.std.proofs.Common.{refl, arith}
 use Rattle.std.proofs.KnownBytes.{Keeps-refl, Keeps-trans}
 use Rattle.cobs_live.proofs.ReadLemmas.{once-more, once-none}

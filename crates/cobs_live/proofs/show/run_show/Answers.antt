@@ -1,5 +1,6 @@
--- The text so far is the text that `show_next` shows, read after read. At the end, the text of a fault (`shown-fault`)
--- or of the end of the input (`shown-ended`) is added.
+-- The text so far is the text that `show_next` shows, read after read. At a fault, the text is the one that `HasShown`
+-- describes for this fault (`shown-fault`, `unfinished-fault`). After the greatest number of reads, the text of the end
+-- of the input is added (`shown-ended`).
 use Rattle.std.proofs.Common.{rules, [], Some}
 use Rattle.std.proofs.KnownBytes.{Consumes-nil}
 use Rattle.cobs_live.proofs.RunLemmas.{HasShownSoFar-live, shown-ended, shown-fault, unfinished-fault}
@@ -9,7 +10,7 @@ use Rattle.cobs_live.proofs.show.run_show.Goals as goal
 pub by_read-init : goal.by_read-init
 by_read-init g c = record { live = HasShownSoFar-live _ _ _ (c.in_ok-watch.ensures.start (Some []) _); flushed = c.requires.flushed; chunk = c.in_ok-chunk.ensures.len }
 
--- `show_next` returned a fault, and the text is that of this fault
+-- `show_next` returned a fault, and the text is the one that `HasShown` describes for this fault
 pub returns-in_err-next-clause-shown : goal.returns-in_err-next-clause-shown
 returns-in_err-next-clause-shown g c = shown-fault _ _ _ _ _ _ c.in_err-next.field-0.0 (search rules) (c.in_err-next.ensures.shown _ _ _ c.by_read.invariant.live.so_far)
 

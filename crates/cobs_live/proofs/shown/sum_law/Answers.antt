@@ -18,7 +18,7 @@ ordered false bytes = length-reverse bytes
 length-sum : (c : Checksum) (message : List ℕ) → length (sum_of c message) ≡ c.params.size
 length-sum c message = grind (arith, ordered, length-take-le)
 
--- the bytes of a message with its checksum, without as many bytes at the end, are the message
+-- a message with its checksum, without the last bytes (as many as a checksum has), is the message
 body-back : (c : Checksum) (message : List ℕ) → body_of c (with_sum (Some c) message) ≡ message
 body-back c message = grind (arith, length-append, length-sum, take-append-le, take_all)
 

@@ -1,7 +1,7 @@
 -- The text so far, followed by the report of the bytes that are left, is the report of the stream (`stated`). `left` is
--- these bytes: those that the reader has kept, and those that the source still has. The reader's decoder is idle, and
--- its buffer has room for the longest message. The loop ends, because each iteration takes at least one of the bytes
--- that are left.
+-- these bytes: those that the reader has kept, and those that the source still has. There are at most `max_input` of
+-- them (`few`). The reader's decoder is idle, and its buffer has room for the longest message. The loop ends, because
+-- each iteration takes at least one of the bytes that are left.
 use Rattle.std.proofs.Common.{◌≡◌, ◌≤◌, ◌+◌, [], ◌++◌, length, string_bytes}
 use Rattle.cobs.specs.Fields.Decoders.{owned_buffer, owned_phase}
 use Rattle.cobs.specs.Feed.{DecoderAfter}

@@ -1,6 +1,6 @@
 -- By the clause `after` of `feed`, each byte leads to the state after the first bytes of the frame, and the vector has
--- the message so far (`StateAfter`). At the end, the clause `message` of `feed` says whether the frame is whole, and
--- which message it reads as.
+-- the message so far (`StateAfter`). At the end, the clause `message` of `feed` says whether the bytes are a frame, and
+-- which message they read as.
 use Rattle.std.proofs.Common.{◌≡◌, ◌≢◌, ℕ, true, false, List, [], ◌∷◌, ◌++◌, take, get_or, refl, sym, ap, ◌∙◌, subst, take_all, append-nil}
 use Rattle.std.proofs.lemmas.List.{take_more}
 use Rattle.std.proofs.lemmas.List.Elements.{All-get_or}

@@ -1,5 +1,5 @@
--- The vector has the message bytes of the results for the bytes before the index, and the state is the state after
--- these bytes (`StateAfter`).
+-- The vector has the message bytes of the results for the bytes that the loop has gone through (their number is
+-- `byte-index`), and the state is the state after these bytes (`StateAfter`).
 use Rattle.std.proofs.Common.{take}
 use Rattle.cobs.specs.Table.{StateAfter}
 use Rattle.cobs_vectors.proofs.callers.decode_by_state.Given as goal

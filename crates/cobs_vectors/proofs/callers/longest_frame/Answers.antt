@@ -1,5 +1,5 @@
--- `m` contains a message of this length with the longest frame, and facts about this message (`everywhere` of
--- `law_4`). `f` contains the frame of this message (`one` of `law_2`).
+-- For each length, there is a message with the longest encoded frame. `m` contains this message and facts about it
+-- (`everywhere` of `law_4`). `f` contains the encoded frame of this message (`one` of `law_2`).
 -- `law_2`: Each message has one encoded frame.
 -- `law_4`: The length of a frame, and its bound.
 use Rattle.std.proofs.Common.{◌∙◌}

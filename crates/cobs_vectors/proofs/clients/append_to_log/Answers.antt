@@ -1,5 +1,5 @@
--- By `apart` of `law_10`, the outcomes of a log that ends in a zero, followed by a frame and a zero, are the outcomes
--- of the log and then the frame's message (`reported`).
+-- By `apart` of `law_10`, the outcomes of a log that is empty or ends in a zero, followed by a frame and a zero, are
+-- the outcomes of the log and then the frame's message (`reported`).
 -- `law_10`: Damage stays between its sentinels.
 use Rattle.std.proofs.Common.{◌≡◌, ◌≢◌, ℕ, List, [], ◌∷◌, ◌++◌, length, ap, arith, append-nil, rules}
 use Rattle.std.proofs.lemmas.List.Elements.{All-nil}

@@ -1,6 +1,6 @@
--- `written` is the frame that `encode` wrote. It is a piece, since no frame is empty (`lower` of `law_4`). If the
--- decoder returned m (`begins`), the frame reads as m (`only` of `decode`), and by `message` of `law_5` it reads as no
--- other message. So m is the message.
+-- If `decode` returned a message m, it is the message that was encoded. `written` is the frame that `encode` wrote. It
+-- is a piece, since no frame is empty (`lower` of `law_4`). If `decode` returned m (`begins`), the frame reads as m
+-- (`only` of `decode`), and by `message` of `law_5` it reads as no other message.
 -- `law_4`: The length of a frame, and its bound.
 -- `law_5`: Equal frames, equal messages.
 use Rattle.std.proofs.Common.{ℕ, List, length, take, ap, subst, arith}

@@ -1,5 +1,5 @@
--- f is the frame of m that was fed. For the zero, the decoder returns the length of m, and its buffer begins with m, by
--- `fed` of `law_18` (`w`). So the arms for `Ok(None)` and for an error are never reached.
+-- For the zero after a frame f of m, the decoder returns the length of m, and its buffer begins with m, by `fed` of
+-- `law_18` (`w`). So the arms for `Ok(None)` and for an error are never reached.
 -- `law_18`: Streaming decoders return the message of each frame, and no other message.
 use Rattle.std.proofs.Common.{◌≡◌, ◌∙◌, ap, length, sym, take, Ok}
 use Rattle.cobs_vectors.proofs.clients.on_zero.Goals as goal

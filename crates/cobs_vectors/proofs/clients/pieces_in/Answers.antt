@@ -1,6 +1,6 @@
--- The found pieces and the begun bytes are those of t, the stream up to the index (the invariant). One byte more
--- changes them in one of three ways: a nonzero byte joins the begun piece (`joins`), a zero ends it (`ends_one`), or a
--- zero ends nothing (`ends_none`). These lemmas follow from the fields of `law_9`.
+-- The found pieces and the begun bytes are those of t, the stream up to the loop's next byte (the invariant). One byte
+-- more changes them in one of three ways: a nonzero byte joins the begun piece (`joins`), a zero ends it (`ends_one`),
+-- or a zero ends nothing (`ends_none`). These lemmas follow from the fields of `law_9`.
 -- `law_9`: A stream may be cut anywhere.
 use Rattle.std.proofs.Common.{◌≡◌, ◌≢◌, ℕ, ◌+◌, List, [], ◌∷◌, ◌++◌, get_or, length, take, take_all, sym, ap, ◌∙◌, append_assoc, append-nil, arith}
 use Rattle.std.proofs.lemmas.List.{length-map, map-append, nil_from_length, take_more}
@@ -42,7 +42,7 @@ by_byte-preserved c =
     let law : StreamLaw = c.law_9.ensures in
     let chunk : List ℕ = c.args.chunk.now in
     let i : ℕ = c.by_byte.byte-index in
-    -- the stream up to the index, and the stream with one byte more (`next`)
+    -- the stream up to the loop's next byte, and the stream with this byte (`next`)
     let t : List ℕ = c.args.begun.now.items ++ take i chunk in
     let next : c.args.begun.now.items ++ take (i + 1) chunk ≡ t ++ get_or chunk i 0 ∷ []
     = ap (λ x. c.args.begun.now.items ++ x) (take_more chunk i 0 c.by_byte-test.true) ∙ sym (append_assoc c.args.begun.now.items (take i chunk) _) in

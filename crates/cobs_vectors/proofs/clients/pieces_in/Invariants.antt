@@ -1,5 +1,5 @@
 -- `found` has the pieces that ended in t, and `begun` has the bytes of t that no zero has ended. t is the bytes that
--- were begun before the call, and then those of the chunk before the index.
+-- were begun before the call, and then the bytes of the chunk that the loop has gone through.
 use Rattle.std.proofs.Common.{◌≡◌, ◌++◌, take}
 use Rattle.cobs.specs.Messages.{messages_in}
 use Rattle.cobs.specs.Stream.{ended_pieces, unended}

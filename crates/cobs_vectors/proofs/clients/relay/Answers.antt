@@ -1,5 +1,6 @@
--- The messages that were sent, followed by the messages among the remaining outcomes, are all messages of the stream.
--- Each piece moves its outcome from the remaining outcomes to the messages that were sent (`relayed`), by `law_21`.
+-- The messages of the output so far, followed by the messages among the remaining outcomes, are all messages of the
+-- stream. Each iteration removes the first remaining outcome, and appends it to the output if it is a message
+-- (`relayed`), by `law_21`.
 -- `law_21`: A loop over the pieces of a stream.
 use Rattle.std.proofs.Common.{◌≡◌, ◌-◌, ℕ, List, [], ◌∷◌, ◌++◌, length, drop, refl, ◌∙◌, arith, append_assoc, length-take, length-drop}
 use Rattle.std.proofs.lemmas.List.{drop-drop, take_rest}
@@ -13,8 +14,8 @@ first (Message message) more = refl
 first (Broken count) more = refl
 first TooLong more = refl
 
--- If the sent messages `out`, followed by the messages among the remaining outcomes `found`, are `all`, this is still
--- so after the first remaining outcome o is sent, if it is a message, and removed from the remaining outcomes.
+-- If the messages `out` of the output, followed by the messages among the remaining outcomes `found`, are `all`, this
+-- is still so after the first remaining outcome o is removed, and appended to `out` if it is a message.
 relayed : (out out' found more all : List Outcome) (o : Outcome) → out ++ messages_of found ≡ all → found ≡ o ∷ more → out' ≡ out ++ messages_of (o ∷ []) → out' ++ messages_of more ≡ all
 relayed out out' found more all o so_far one reported = grind (arith, append_assoc, first)
 
@@ -31,7 +32,7 @@ by_piece-preserved g c =
     record {
       -- the index is still within the stream
       within = omega (arith, t.within.0, length-take (length stream - at) (drop at stream), length-drop at stream, inv.within);
-      -- the outcome of this piece is moved to the messages that were sent, if it is a message
+      -- the outcome of this piece is appended to the output if it is a message
       reported = relayed _ _ _ _ _ _ inv.reported one (rw (c.buffer.ensures.value, len) at c.in_ok-out.ensures.reported);
       at_sentinel = c.in_ok-out.ensures.at_sentinel;
       idle = t.idle;

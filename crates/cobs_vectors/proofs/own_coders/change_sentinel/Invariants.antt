@@ -1,4 +1,4 @@
--- The bytes before the index are XORed with the sentinel, and the others are as they were.
+-- The bytes that the loop has gone through are XORed with the sentinel, and the others are as they were.
 use Rattle.std.proofs.Common.{◌≡◌, ◌++◌, take, drop}
 use Rattle.cobs.specs.Sentinel.{xor_each}
 use Rattle.cobs_vectors.proofs.own_coders.change_sentinel.Given as goal

@@ -1,5 +1,5 @@
--- The encoder has taken the bytes before the index (`CobsEncoderAfter`): `dest` has their frame, up to the code of the
--- open block. `dest` keeps its length.
+-- The encoder has taken the bytes that the loop has gone through (`CobsEncoderAfter`): `dest` has their frame, except
+-- the code of the open block. `dest` keeps its length.
 use Rattle.std.proofs.Common.{◌≡◌, take, length}
 use Rattle.cobs.specs.OpenBlock.{CobsEncoderAfter, place_at}
 use Rattle.cobs_vectors.proofs.own_coders.encode_by_byte.Given as goal

@@ -15,11 +15,13 @@ use Rattle.cobs_vectors.proofs.own_coders.frame_len.Goals.{else-byte-eq0, else-r
 ones : (run : ℕ) → HasNoZero (replicate run 1)
 ones run = All-replicate (λ b. b ≢ 0) run 1 (λ e. absurd cc)
 
--- the frame is longer than the open block, by the clause `lower` of `law_4`
+-- the frame is at least as long as the open block, which has `run` bytes after its code, by the clause `lower` of
+-- `law_4`
 least : ((m : List ℕ) → length m + 1 ≤ encoded_len m) → (run : ℕ) (rest : List ℕ) → run + 1 ≤ encoded_len (replicate run 1 ++ rest)
 least lower run rest = grind (arith, length-append, length-replicate)
 
--- if the open block has 254 bytes, and more bytes follow, it is closed: 255 bytes are added to the closed blocks.
+-- if the open block has 254 bytes after its code, and more bytes follow, it is closed: its 255 bytes are added to the
+-- closed blocks.
 -- `full` is a clause of `law_15`.
 close_full : ((a m : List ℕ) → length a ≡ 254 → HasNoZero a → m ≢ [] → encoded_len (a ++ m) ≡ 255 + encoded_len m)
     → (closed run : ℕ) (rest : List ℕ) → run ≡ 254 → rest ≢ [] → closed + encoded_len (replicate run 1 ++ rest) ≡ closed + 255 + encoded_len rest

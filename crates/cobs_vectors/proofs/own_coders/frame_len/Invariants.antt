@@ -1,5 +1,5 @@
 -- The frame is as long as the closed blocks and the frame of the other bytes (`counted`). These are the `run` bytes of
--- the open block, for which the invariant has ones, and the bytes from the index on.
+-- the open block, for which the invariant has ones, and the bytes that the loop hasn't gone through yet.
 use Rattle.std.proofs.Common.{◌≡◌, ◌<◌, ◌+◌, ◌++◌, drop, replicate}
 use Rattle.cobs.specs.Length.{encoded_len}
 use Rattle.cobs_vectors.proofs.own_coders.frame_len.Given as goal

@@ -1,4 +1,4 @@
--- By `fed_only` of `law_18`, the bytes f that were fed read as the message that the zero returned.
+-- By `fed_only` of `law_18`, the bytes f that were fed read as the message that `feed_byte` returned for the zero.
 -- `law_18`: Streaming decoders return the message of each frame, and no other message.
 use Rattle.cobs_vectors.proofs.receivers.end_piece.Goals as goal
 

@@ -56,8 +56,8 @@ module _ (old : List ℕ) (end : ℕ) (fits : end ≤ length old) where
     byte-moved : BlockLeft h old (set buffer written (get_or buffer read 0)) (written + 1) (take (next - (read + 1)) (drop (read + 1) h)) code after
     byte-moved = block-more _ next-byte b (omega (arith, block-long b))
 
--- all bytes of a block with this code are moved: `after` is the buffer now, r the next index to read, which is `next`,
--- and w the next index to write
+-- all bytes of a block with this code are moved: `after` is the buffer after that, r is the next index to read, which
+-- is `next`, and w is the next index to write
 record BlockMoved (old : List ℕ) (end code next : ℕ) (after : List ℕ) (r w : ℕ) : Type 0 where
   read-is : r ≡ next
   order : w < r
@@ -95,7 +95,7 @@ by_byte-init c =
 pub by_byte-preserved : goal.by_byte-preserved
 by_byte-preserved c = grind (arith, byte-moved)
 
--- after the `if`, all bytes of the block are moved: in the loop, or there was none
+-- after the `if`, all bytes of the block are moved: the loop moved them, or the block has no byte after its code
 moved : (c : Joined-read-next) → let code = get_or c.by_block.buffer c.by_block.read 0 in
     BlockMoved c.args.buffer.now c.args.end code (c.by_block.read + code) c.if-read-next.buffer c.if-read-next.read c.if-read-next.written
 moved c =

@@ -1,5 +1,5 @@
--- The first `end` bytes h of the buffer are the frame. Its bytes from index `read` on are still to be decoded (`Left`);
--- within a block, the block's remaining bytes and the bytes after the block (`BlockLeft`).
+-- The first `end` bytes h of the buffer are the frame. Its bytes from index `read` on are still to be decoded (`Left`).
+-- Within a block, these are the block's remaining bytes and the bytes after the block (`BlockLeft`).
 use Rattle.std.proofs.Common.{◌-◌, ◌<◌, ◌≤◌, drop, take}
 use Rattle.cobs.proofs.decoding.WrittenLemmas.{BlockLeft, Left}
 use Rattle.cobs.proofs.dec.each.decode_blocks_each.Given as goal

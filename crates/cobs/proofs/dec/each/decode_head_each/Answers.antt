@@ -1,7 +1,7 @@
--- The frame h, the bytes of the XORed source before the first sentinel, is decoded block by block. `Left` says which
--- bytes of h are still to be decoded, and `BlockLeft` says it within a block; both are defined in `WrittenLemmas`. At
--- the code of a block, the bytes of the block are the next ones (`left-block`). Each of them is written if there is
--- room for it (`block-more`), otherwise the result is an error (`block-full`).
+-- The frame h consists of the bytes before the first sentinel of the source, each XORed with the sentinel. It is
+-- decoded block by block. `Left` says which bytes of h are still to be decoded, and `BlockLeft` says it within a block;
+-- both are defined in `WrittenLemmas`. At the code of a block, the bytes of the block are the next ones (`left-block`).
+-- Each of them is written if there is room for it (`block-more`), otherwise the result is an error (`block-full`).
 use Rattle.std.proofs.Common.{◌≡◌, ◌∙◌, ◌-◌, ◌+◌, ◌<◌, ◌≤◌, ◌∷◌, [], ℕ, List, Result, true, false, length, take, drop, get_or, sym, arith, Bool, eqb}
 use Rattle.std.proofs.lemmas.Bool.{eqb-true}
 use Rattle.std.proofs.lemmas.List.{drop_all, drop_more, get_or-map, length-map, take-map}

@@ -1,5 +1,6 @@
--- h is the XORed source before its first sentinel. The XORed rest is still to be decoded (`Left`); within a block, the
--- block's remaining bytes and the bytes after the block (`BlockLeft`).
+-- The frame consists of the bytes before the first sentinel of the source, each XORed with the sentinel. The XORed rest
+-- is still to be decoded (`Left`). Within a block, the block's remaining bytes and the bytes after the block are still
+-- to be decoded (`BlockLeft`).
 use Rattle.std.proofs.Common.{drop, length}
 use Rattle.cobs.specs.Sentinel.{xor_each}
 use Rattle.cobs.specs.Stream.{head}

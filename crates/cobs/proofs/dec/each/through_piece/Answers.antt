@@ -1,4 +1,5 @@
--- No byte from `at` to `end` is a zero, so the loop stops at the first zero (`front_is_head`).
+-- None of the bytes from index `at` to index `end - 1` is a zero, so the loop stops at the first zero from index `at`
+-- on (`front_is_head`).
 use Rattle.std.proofs.Common.{◌≡◌, ◌≢◌, ◌+◌, ◌-◌, ◌<◌, ◌≤◌, ℕ, List, length, drop, take, get_or, arith, length-drop, length-take-le}
 use Rattle.std.proofs.lemmas.List.{get_or-drop, take_more}
 use Rattle.std.proofs.lemmas.List.Elements.{All-push}
@@ -7,7 +8,7 @@ use Rattle.cobs.specs.Stream.{head}
 use Rattle.cobs.proofs.decoding.HeadLemmas.{front_is_head}
 use Rattle.cobs.proofs.dec.each.through_piece.Goals as goal
 
--- the loop has passed the bytes from index `at` up to index `end`, and none of them is a zero
+-- the loop has passed the bytes from index `at` to index `end - 1`, and none of them is a zero
 module _ (source : List ℕ) (at end : ℕ) (after : at ≤ end) (none : HasNoZero (take (end - at) (drop at source))) where
   -- the source from index `at` on
   abbrev rest : List ℕ

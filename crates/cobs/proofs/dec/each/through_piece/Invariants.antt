@@ -1,4 +1,4 @@
--- The loop has passed the bytes from index `at` up to index `end`, and none of them is a zero.
+-- The loop has passed the bytes from index `at` to index `end - 1`, and none of them is a zero.
 use Rattle.std.proofs.Common.{◌-◌, ◌≤◌, drop, length, take}
 use Rattle.cobs.specs.Grammar.{HasNoZero}
 use Rattle.cobs.proofs.dec.each.through_piece.Given as goal

@@ -17,8 +17,8 @@ use Rattle.cobs.proofs.streaming.SpanLemmas.{FeedsQuietly-more}
 use Rattle.cobs.proofs.dec.forms.decode_blocks.Goals as goal
 use Rattle.cobs.proofs.dec.forms.decode_blocks.Goals.{After-take_blocks, After-take_blocks-2}
 
--- h is the XORed source; `tail` is the number of its bytes except the last 254, which the first call of `take_blocks`
--- gets
+-- h is the XORed source. The first call of `take_blocks` gets all bytes of h except the last 254; `tail` is the number
+-- of the bytes that it gets.
 module _ (c : After-take_blocks) where
   abbrev h : List ℕ
   h = xor_each c.args.sentinel c.args.source.now
@@ -33,7 +33,7 @@ module _ (c : After-take_blocks) where
   below : All (λ b. b < 256) h
   below = grind (arith, xored_below)
 
-  -- the bytes that the first call took are fed quietly
+  -- the bytes that the first call took are fed quietly (`FeedsQuietly`)
   first : FeedsQuietly c.args.dest.now Idle (take c.take_blocks.result h) c.take_blocks.new.dest (phase_of c.take_blocks.new.self)
   first = grind (arith, front_xored, take-take, length-take)
 
@@ -51,7 +51,7 @@ take_blocks-requires-clause-nonzero c = grind (arith, common_steps, front_xored,
 pub take_blocks-requires-2-clause-nonzero : goal.take_blocks-requires-2-clause-nonzero
 take_blocks-requires-2-clause-nonzero c = grind (arith, common_steps, All-drop, slice_xored, All-take)
 
--- the missing bytes of the open block are among the last 254 bytes
+-- the missing bytes of the block that is open after the first call are among the last 254 bytes
 pub kept_len-len-requires-clause-left : goal.kept_len-len-requires-clause-left
 kept_len-len-requires-clause-left c =
     let at = (goal.at.kept_len-len-requires-clause-left c).After-take_blocks in
@@ -75,7 +75,7 @@ returns-then-take_blocks-tail c =
     let here = get_or-take (tail at) (h at) c.take_blocks.result 0 c.if-take_blocks-tail.true in
     kept_stop _ _ _ _ cut.0 _ cut.1.1 c.requires (omega (arith, cut.1.0, long at)) (omega (arith, long at)) (first at) (rw here at stop)
 
--- after both calls: the second call gets the first bytes of the last 254
+-- after both calls: the first call took all of its bytes (`fed`), and the second got the first bytes of the last 254
 module _ (c : After-take_blocks-2) (fed : FeedsQuietly c.args.dest.now Idle (take c.saturating_sub-tail.result (xor_each c.args.sentinel c.args.source.now))
     c.take_blocks.new.dest (phase_of c.take_blocks.new.self)) where
   -- the bytes that both calls took are fed quietly
@@ -105,7 +105,8 @@ returns c =
     let at = both.After-take_blocks in
     let tail = c.saturating_sub-tail.result in
     let fed = all-fed at c.if-take_blocks-tail.false in
-    -- what `kept_len` says: the output of these bytes is the kept output, and whether the frame is whole
+    -- `kept_len` says that the output of the bytes that both calls get is the kept output (`kept`), and it says whether
+    -- the frame is whole (`whole`)
     let kept = c.kept_len-len.ensures.kept (h at) tail (sym (rest_xored _ _ tail)) (missed (h at) _ _ c.take_blocks.new.self tail c.requires fed) in
     let whole = c.kept_len-len.ensures.whole (h at) tail (sym (rest_xored _ _ tail)) (missed (h at) _ _ c.take_blocks.new.self tail c.requires fed) in
     -- the second call took all of its bytes, so it took as many as `kept_len` returned

@@ -19,6 +19,7 @@ returns-clause-message c = grind (arith, take_at, decoded-message, eqb-false)
 -- if the source is a frame of m, its message is m
 pub returns-clause-reads : goal.returns-clause-reads
 returns-clause-reads c found m r =
+    -- the vector is the message of the source (`message`), and m is the message of the source too (`same`)
     let message = returns-clause-message c in
     let same = (decoded_reads c.args.source.now (bytes_below _ c.type_inv.source) m (frame_piece r)).1 r in
     cc

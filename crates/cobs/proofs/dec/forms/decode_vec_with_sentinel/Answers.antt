@@ -21,6 +21,7 @@ returns-clause-message c = grind (arith, length-map, bit_xor, take_at, decoded_h
 -- if the XORed source is a frame of m, its message is m
 pub returns-clause-reads : goal.returns-clause-reads
 returns-clause-reads c found m r =
+    -- the vector is the message of the source (`message`), and m is the message of the source too (`same`)
     let message = returns-clause-message c in
     let same = (decoded_head_reads _ (xored_below _ _ c.ranges.sentinel.fits c.type_inv.source) m (frame_piece r)).1 r in
     cc

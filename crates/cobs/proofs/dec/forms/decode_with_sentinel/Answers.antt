@@ -1,5 +1,6 @@
--- A short frame is decoded as one span into a local buffer, and any other frame by `decode_blocks`. Each of the two
--- results is the result for the bytes before the first sentinel (`result_of_sentinel_decode-head`).
+-- A short frame that is whole is decoded as one span into a local buffer, and any other frame by `decode_blocks`. Each
+-- of the two results is the result for the bytes before the first sentinel (`result_of_sentinel_decode-head`). On a
+-- target without vectors, `decode_head_each` decodes every frame.
 use Rattle.std.proofs.Common.{◌≡◌, ◌<◌, ◌-◌, ℕ, List, Some, Ok, length, take, ap, length-take-le, sym, arith}
 use Rattle.std.proofs.lemmas.Bool.{eqb-true}
 use Rattle.cobs.specs.Overwritten.{overwritten}
@@ -38,6 +39,7 @@ returns-then-eq c =
     -- the result `Some(0)` says that no byte of the last block is missing; d has the clauses for this result
     let found : c.decode_span.result ≡ Some 0 = grind arith in
     let d = rw found at c.decode_span.ensures in
+    -- `decode_span` gets `len` bytes (`long`); below, as many bytes are written as the output has (`count`)
     let long = length-take-le len source e.within in
     let whole : missing (last_part h) ≡ 0 = sym d.left in
     let is : h ≡ head f = front-head source len s e.within d.nonzero e.stop in

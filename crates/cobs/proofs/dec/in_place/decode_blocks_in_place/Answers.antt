@@ -41,7 +41,7 @@ module _ (c : After-take_in_place) where
   below : All (λ b. b < 256) h
   below = All-take (λ b. b < 256) c.args.end c.args.buffer.now (bytes_below _ (search rules))
 
-  -- all bytes of h except the last 254 are fed quietly
+  -- all bytes of h except the last 254 are fed quietly (`FeedsQuietly`)
   fed : FeedsQuietly c.args.buffer.now Idle (take tail h) new (phase_of c.take_in_place.new.self)
   fed = grind (arith, take-take)
 
@@ -63,7 +63,7 @@ module _ (c : After-take_in_place) where
   bytes-long : length (take (c.args.end - tail) (drop tail new)) ≡ c.args.end - tail
   bytes-long = grind (arith, length-take, length-drop)
 
--- the missing bytes of the open block are among the last 254 bytes
+-- the missing bytes of the block that is open after the first call are among the last 254 bytes
 pub kept_len-len-requires-clause-left : goal.kept_len-len-requires-clause-left
 kept_len-len-requires-clause-left c =
     let at = (goal.at.kept_len-len-requires-clause-left c).After-take_in_place in

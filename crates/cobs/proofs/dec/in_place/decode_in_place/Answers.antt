@@ -1,5 +1,6 @@
 -- The clauses `reads` and `only` are those of `decode_in_place_report`, with the report's `frame_size` in place of the
--- report.
+-- report. In the two proofs of `reads`, `stated` is what this clause of `decode_in_place_report` says of m; `grind`
+-- uses this fact.
 use Rattle.std.proofs.Common.{arith}
 use Rattle.cobs.proofs.dec.in_place.decode_in_place.Goals as goal
 

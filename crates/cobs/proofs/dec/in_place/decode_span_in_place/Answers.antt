@@ -17,14 +17,14 @@ use Rattle.cobs.proofs.dec.in_place.decode_span_in_place.Goals as goal
 use Rattle.cobs_bytes.proofs.bytes.XoredLemmas.{xor_each-zero}
 use Rattle.cobs_bytes.proofs.bytes.ListLemmas.{drop-later, part-nonzero}
 
--- the copy of the frame: if `copied` are the bytes after the first byte, and the first byte is written before them, the
--- first `len` bytes of the local buffer are the frame
+-- The copy of the frame in the local buffer: if `copied` begins with the frame's bytes after the first byte, and the
+-- first byte is written before `copied`, the first `len` bytes of the local buffer are the frame.
 front-is : (old copied rest : List ℕ) (len : ℕ) → 1 < len → len ≤ 65 → len ≤ length old → copied ≡ xor_each 0 (take (len - 1) (drop 1 old)) ++ rest
     → take len (set (put_mid 1 64 (replicate 65 0) copied) 0 (get_or old 0 0)) ≡ take len old
 front-is old copied rest len some most within is = grind (arith, length-take-le, length-drop, xor_each-zero, take_at, drop_more, append-nil)
 
--- The bytes after the first code were moved to the front of the buffer, which is now `moved` and was `old` before. None
--- of the first `len` bytes of `old` is a zero.
+-- The bytes after the first code were moved to the front of the buffer: `old` is the buffer before this move, and
+-- `moved` is the buffer after it. None of the first `len` bytes of `old` is a zero.
 record Moved (old moved : List ℕ) (len : ℕ) : Type 0 where
   some : 1 < len
   most : len ≤ 65
@@ -41,7 +41,7 @@ module _ {old moved : List ℕ} {len : ℕ} (m : Moved old moved len) where
   long : length bytes ≡ len - 1
   long = grind (arith, length-take-le, length-drop)
 
-  -- they are at the front of the buffer now
+  -- they are at the front of `moved`
   front : take (len - 1) moved ≡ bytes
   front = grind (arith, take_at, bytes, long)
 

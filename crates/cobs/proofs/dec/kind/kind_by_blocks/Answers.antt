@@ -1,6 +1,6 @@
--- The bytes from index `read` on decide the kind, because only whole blocks come before them (`BlocksBehind`). A whole
--- block before others preserves this (`one-more`). The last block decides: it breaks off (`broken-kind`), it is the
--- lone block after a full block (`longer-kind`), or it is another block (`canonical-kind`).
+-- The bytes from index `read` on decide the kind, because only whole blocks come before them (`BlocksBehind` of
+-- `KindLemmas`). A whole block before others preserves this (`one-more`). The last block decides: it breaks off
+-- (`broken-kind`), it is the lone block after a full block (`longer-kind`), or it is another block (`canonical-kind`).
 use Rattle.std.proofs.Common.{ℕ, List, ◌≡◌, ◌<◌, drop, length, get_or, arith, length-drop}
 use Rattle.std.proofs.lemmas.List.{drop_more, drop-drop}
 use Rattle.cobs.specs.declared.dec.kind.FrameKind.TheVariants.{NotAFrame, Canonical}

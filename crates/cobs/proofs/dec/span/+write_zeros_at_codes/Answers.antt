@@ -1,6 +1,7 @@
--- By induction on the codes. The bytes of the first code's block are left as they are, a zero replaces the next code,
--- and the recursive call does the same in the shorter list after that code (`walked-next`). In the last block nothing
--- is replaced (`walked-past`). The recursive call needs three facts: its `dest` is shorter (`length-drop`), its code is
+-- The function calls itself once for each code in `dest`, and the proof of a call uses the contract of the recursive
+-- call. The call leaves the bytes of the first code's block as they are, and replaces the next code with a zero. The
+-- recursive call does the same in the shorter list after that code (`walked-next`). In the last block nothing is
+-- replaced (`walked-past`). The recursive call needs three facts: its `dest` is shorter (`length-drop`), its code is
 -- below 256, and its code and bytes contain no zero (`next-nonzero`).
 use Rattle.std.proofs.Common.{◌≢◌, ◌<◌, arith, length-drop}
 use Rattle.std.proofs.lemmas.List.Elements.{All-head}

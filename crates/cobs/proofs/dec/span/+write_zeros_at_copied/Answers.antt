@@ -1,6 +1,6 @@
--- By induction on the codes, as for `write_zeros_at_codes`: the recursion goes from code to code (`walked-next`), and
--- in the last block nothing is replaced (`walked-past`). The only difference is that each code is read from the bytes
--- that were copied (`code-is`).
+-- The proof is that of `write_zeros_at_codes`: the recursion goes from code to code (`walked-next`), and in the last
+-- block nothing is replaced (`walked-past`). The only difference is that each code is read from the bytes that were
+-- copied (`code-is`).
 use Rattle.std.proofs.Common.{◌≡◌, ◌≢◌, ◌-◌, ◌<◌, ℕ, List, bit_xor, get_or, arith, drop, length, length-drop}
 use Rattle.std.proofs.lemmas.List.{length-map, get_or-map}
 use Rattle.std.proofs.lemmas.Nat.{xor_lt}

@@ -1,6 +1,7 @@
--- `ends` of the invariant says that a block of the piece h ends at index `at`. Each iteration passes a whole block
--- (`ends-next`) or 32 blocks without bytes (`ends-ones`), so it still holds. If the last block breaks off, the kept
--- output ends with the code of this block (`broken-kept`); otherwise all output is kept (`whole-kept`).
+-- The field `ends` of the invariant says that a block of the piece h ends before index `at` of `bytes`. Each iteration
+-- passes a whole block (`ends-next`) or 32 blocks without bytes (`ends-ones`), so `ends` still holds. If the last block
+-- breaks off, the kept output is the output of the bytes up to and including the code of this block (`broken-kept`);
+-- otherwise all output is kept (`whole-kept`).
 use Rattle.std.proofs.Common.{◌≡◌, ◌≢◌, ◌+◌, ◌<◌, ◌≤◌, ℕ, List, ap, length, take, drop, replicate, get_or, bit_xor, arith}
 use Rattle.std.proofs.lemmas.List.{drop-drop, drop-map, get_or-drop, length-drop, length-map, get_or-map, take_all}
 use Rattle.std.proofs.lemmas.List.Elements.{All-get_or}

@@ -1,5 +1,5 @@
--- If `left` bytes of a block are missing at the start, no byte is missing at `at`: a block ends there. The bytes that
--- `kept_len` reads are the bytes of the piece h from index `start` on.
+-- The bytes that `kept_len` reads are the bytes of the piece h from index `start` on. If `left` bytes of a block are
+-- missing before the first of them, no byte is missing before index `at` of them: a block ends there.
 use Rattle.std.proofs.Common.{◌≡◌, ◌≤◌, ◌+◌, ◌-◌, ℕ, List, drop, length, take}
 use Rattle.cobs.specs.Piece.{last_part, missing}
 use Rattle.cobs.specs.Sentinel.{xor_each}

@@ -1,5 +1,5 @@
--- If `dest` begins with rows of codes 1 (`ones`), each of these codes becomes a zero (`row_walked`), and
--- `write_zeros_at_copied` goes on after the rows (`goes_on`).
+-- If `dest` begins with rows of blocks that each have the code 1 (`ones`), each of these codes becomes a zero
+-- (`row_walked`), and `write_zeros_at_copied` goes on after the rows (`goes_on`).
 use Rattle.std.proofs.Common.{◌≡◌, ◌≢◌, ◌-◌, ◌+◌, ◌≤◌, ◌++◌, ◌∷◌, [], refl, sym, ap, append-nil, length-append, ℕ, List, bit_xor, arith, drop, take, length, length-drop, replicate, take_all, take_at}
 use Rattle.std.proofs.lemmas.List.{drop_all, drop_at, length-map, length-replicate}
 use Rattle.std.proofs.lemmas.List.Elements.{All-cons, All-drop, All-tail}
@@ -12,8 +12,8 @@ use Rattle.cobs.proofs.streaming.WalkLemmas.{IsWalked}
 use Rattle.cobs.proofs.dec.span.write_zeros_by_rows.Goals as goal
 use Rattle.cobs.proofs.dec.span.write_zeros_by_rows.Goals.{Then-taken-ne0}
 
--- `dest` has the bytes of `copied`, each XORed with the sentinel s. The first n of these bytes are codes 1, and zeros
--- were written over them: the buffer is now `new`.
+-- `dest` has the bytes of `copied`, each XORed with the sentinel s. The first n bytes of `dest` are codes 1; `new` is
+-- the buffer after zeros were written over them.
 module _ (n : ℕ) (copied dest new : List ℕ) (s : ℕ) (is : dest ≡ xor_each s copied) (within : n ≤ length copied) (row : take n copied ≡ replicate n (bit_xor 1 s))
     (written : new ≡ replicate n 0 ++ drop (0 + n) dest) where
   -- the first n bytes of `dest` are codes 1
@@ -57,7 +57,7 @@ module _ (c : Then-taken-ne0) where
       let rows = c.write_rows-taken.ensures in
       rest _ c.args.copied.now c.args.dest.now _ c.args.sentinel c.requires.copied rows.within rows.rows rows.written (All-tail (λ b. b ≢ 0) c.args.first c.args.dest.now c.requires.nonzero)
 
--- the other bytes are those of `copied` after the rows
+-- the bytes of `dest` after the rows are the bytes of `copied` after the rows, XORed
 pub write_zeros_at_copied-requires-clause-copied : goal.write_zeros_at_copied-requires-clause-copied
 write_zeros_at_copied-requires-clause-copied c = (after_rows (goal.at.write_zeros_at_copied-requires-clause-copied c).Then-taken-ne0).0
 

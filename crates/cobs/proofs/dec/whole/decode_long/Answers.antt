@@ -1,6 +1,6 @@
--- The bytes after the leading zeros are fed quietly (`front`). They are the whole first piece (`decoded`, `count`), or
--- the buffer has no room for the next byte (`too-long`). `FrontFed` has the lemmas for both cases, and `answer-by`
--- gives the result from the outcome of the piece.
+-- The bytes that `take_run` takes after the leading zeros are fed quietly (`FeedsQuietly`; `front`). They are the whole
+-- first piece (`decoded`, `count`), or the buffer has no room for the output of the next byte (`too-long`). `FrontFed`
+-- has the lemmas for both cases, and `answer-by` gives the result from the outcome of the piece.
 use Rattle.std.proofs.Common.{◌≡◌, ◌≢◌, ◌∙◌, ◌<◌, ◌-◌, ℕ, List, length, take, drop, get_or, Some, refl, arith, rules, length-drop, sym, ap}
 use Rattle.std.proofs.lemmas.Bool.{eqb-true, eqb-false}
 use Rattle.std.proofs.lemmas.List.{take_rest}

@@ -1,11 +1,13 @@
--- The windows (`append_windows`), and then the rest (`append_short` or `append_rest`), are two steps that take the
--- whole source (`front-next`, a rule of `next_steps`).
+-- The function takes the source in two steps: first the windows (`append_windows`), and then the rest (`append_short`
+-- or `append_rest`). Each step states `TakesFront`, and the tactics join the two steps with the lemmas of std's
+-- `common_steps`.
 use Rattle.std.proofs.Common.{arith}
 use Rattle.std.proofs.lemmas.List.{take_rest}
 use Rattle.cobs.proofs.enc.blocks.append.Goals as goal
 use Rattle.std.proofs.lemmas.Grind.{common_steps}
 
--- the frame of the rest fits, because its end was computed before the windows were taken (`left-end`)
+-- the frame of the rest fits, because it ends at the index that was computed before the windows were taken (the field
+-- `end` of `TakesFront`)
 pub append_short-requires-clause-fits : goal.append_short-requires-clause-fits
 append_short-requires-clause-fits c = grind (arith, take_rest)
 

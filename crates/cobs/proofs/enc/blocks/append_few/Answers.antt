@@ -1,5 +1,5 @@
--- Each byte is written after the open block's bytes (`written`), and then joins them or, if it is a zero, closes the
--- block.
+-- Each byte is written after the open block's bytes (`written`). It then joins the block (`joined`) or, if it is a
+-- zero, closes the block (`Reaches-zero`).
 use Rattle.std.proofs.Common.{◌≡◌, ℕ, get_or, refl, arith}
 use Rattle.std.proofs.lemmas.List.{length-set}
 use Rattle.cobs.proofs.encoding.ReachLemmas.{Reaches-code, Reaches-weaker, Reaches-zero}
@@ -19,7 +19,8 @@ by_byte-preserved c =
     elim c.if-byte-eq0.branch [
       -- a zero closes the open block, whose code was written
       | goal.then-byte-eq0 b ↦ rw b.index-is (record { open' = omega arith; reaches = Reaches-zero (written byte (omega arith) r) (omega arith) (omega arith) b.if-byte-eq0.true (omega arith) (λ lt. refl) })
-      -- any other byte joins the open block; the code that was written in its place doesn't matter yet (`Reaches-code`)
+      -- any other byte joins the open block; the byte that was also written in the place of the block's code doesn't
+      -- matter (`Reaches-code`)
       | goal.else-byte-eq0 b ↦ rw b.index-is (record { open' = omega arith; reaches = Reaches-code (Reaches-weaker (joined byte (omega arith) r refl b.if-byte-eq0.false (omega arith) (omega arith)) (λ full p lt. p)) _ })
     ]
 

@@ -1,4 +1,5 @@
--- The first `read` bytes are taken (`Reaches`), and the open block has room for all the others.
+-- The first `read` bytes are taken (`Reaches`), and the open block has room for all the others (`open'`). Once a byte
+-- is taken, the frame doesn't end in a full block.
 use Rattle.std.proofs.Common.{◌≡◌, ◌<◌, ◌+◌, ◌-◌, false}
 use Rattle.cobs.specs.Fields.Progress.{reached_by}
 use Rattle.cobs.specs.Internal.Reaches.{Reaches, start_with}

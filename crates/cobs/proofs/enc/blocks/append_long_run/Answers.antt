@@ -1,5 +1,5 @@
--- Each turn takes a part of the run (`slice-joined`), which may fill its block; the zero after the run closes the last
--- one.
+-- Each iteration takes a part of the run (`slice-joined`), which may fill the open block (`front-filled`). The zero
+-- after the run closes the block that is then open (`byte-zero`).
 use Rattle.std.proofs.Common.{◌≡◌, ◌==◌, ◌+◌, ◌-◌, ℕ, List, drop, get_or, refl, arith, length-drop}
 use Rattle.std.specs.Prelude.{not}
 use borrow.Rule.Slice.PartMut.{put_mid}
@@ -14,13 +14,14 @@ use Rattle.cobs.proofs.enc.blocks.append_long_run.Goals.{After-copy_from_slice}
 use Rattle.cobs.proofs.enc.blocks.append_long_run.Goals as goal
 use Rattle.cobs_bytes.proofs.bytes.ListLemmas.{part-nonzero}
 
--- the part that is copied fits the slice, because the frame needs at least as many bytes as are left (`next-least`)
+-- the part that is copied fits the slice, because each byte that is left needs at least one byte of the frame
+-- (`next-least`)
 pub slice_bounds-copy_from_slice-end : goal.slice_bounds-copy_from_slice-end
 slice_bounds-copy_from_slice-end c = grind (arith, length-drop, next-least)
 
 -- a part of the run joins the open block
 module _ (c : After-copy_from_slice) where
-  -- the progress before this turn
+  -- the progress at the start of this iteration
   abbrev reached : Reached
   reached = place_at c.by_block.index (c.by_block.next - c.by_block.index) (not (c.by_block.full == 0))
 
@@ -66,7 +67,7 @@ by_block-preserved-then-next-index c =
       taken = front-next c.by_block.read refl c.by_block.invariant.taken c.min-len.result (front-filled (omega arith) c.if-next-index.true s (omega arith) refl);
     }
 
--- after the loop, a zero follows the run, and closes the open block
+-- if bytes are left after the loop, the next byte is the zero after the run, and it closes the open block
 pub returns-clause-taken : goal.returns-clause-taken
 returns-clause-taken c =
     let left : List ℕ = drop c.by_block.read c.args.source.now in

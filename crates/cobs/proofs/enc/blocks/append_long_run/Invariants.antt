@@ -1,6 +1,6 @@
--- The first `read` bytes of the source are taken (`TakesFront`), none of them after the run. The place of the open
--- block's code comes before the next byte (`ordered`), and the open block has room for a byte (`short`). The loop ends,
--- because each iteration takes bytes of the run.
+-- The first `read` bytes of the source are taken (`TakesFront`), and all of them belong to the run (`within`). The open
+-- block begins before the next byte (`ordered`), and has room for a byte (`short`). The loop ends, because each
+-- iteration takes bytes of the run.
 use Rattle.std.proofs.Common.{◌<◌, ◌≤◌, ◌+◌, ◌-◌, ◌==◌}
 use Rattle.std.specs.Prelude.{not}
 use Rattle.cobs.specs.OpenBlock.{place_at}

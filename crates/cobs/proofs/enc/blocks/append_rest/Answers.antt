@@ -1,5 +1,6 @@
--- Each iteration takes windows and then a run: these are two more steps, which `front-next` joins to the steps before
--- them. In the proof, s is the step to the end of the windows.
+-- Each iteration takes windows (`append_windows`), and then the rest of a run and the zero after it
+-- (`append_long_run`). `front-next` joins each of these two steps to the steps before it. In the proof, s joins all
+-- steps up to the end of the windows.
 use Rattle.std.proofs.Common.{arith}
 use Rattle.std.proofs.lemmas.List.{take_rest}
 use Rattle.cobs.proofs.encoding.TakingLemmas.{front-next}

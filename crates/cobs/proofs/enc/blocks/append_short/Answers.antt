@@ -1,6 +1,6 @@
--- The source is one window (`short-copied`). After each call of `mark_first` and `mark_zeros` the mask still describes
--- it. When no zero is left in the mask, the window is taken (`masked-end`), and with it the whole source
--- (`window-front`).
+-- A source of at least 8 bytes is copied as one window (`short-copied`); `append_few` encodes a shorter source. After
+-- each call of `mark_first` and `mark_zeros`, the mask still describes the window. When no zero is left in the mask,
+-- the window is taken (`masked-end`), and so is the whole source (`window-front`).
 use Rattle.std.proofs.Common.{length, refl, arith}
 use Rattle.cobs.specs.OpenBlock.{next_of}
 use Rattle.cobs.specs.Fields.Progress.{reached_by}
@@ -23,7 +23,7 @@ module _ (c : After-copy_window-mask) where
       let copy = c.copy_window-mask.ensures in
       short-copied (omega arith) r.some r.few (omega arith) r.fits copy.copied copy.zeros
 
--- each call that marks zeros requires that the mask describes a window: here the first call of `mark_first`
+-- `mark_first` and `mark_zeros` require that the mask describes a window: here for the first call of `mark_first`
 pub mark_first-first-requires : goal.mark_first-first-requires
 mark_first-first-requires c = (_, _, _, copied (goal.at.mark_first-first-requires c).After-copy_window-mask)
 
@@ -35,13 +35,13 @@ mark_first-index-requires c = (_, _, _, c.mark_first-first.ensures.marks _ _ _ (
 pub mark_zeros-index-requires : goal.mark_zeros-index-requires
 mark_zeros-index-requires c = (_, _, _, c.mark_first-index.ensures.marks _ _ _ (c.mark_first-first.ensures.marks _ _ _ (copied (goal.at.mark_zeros-index-requires c).After-copy_window-mask)))
 
--- after `mark_zeros`, all zeros are marked, so the window is taken
+-- after `mark_zeros`, each zero of the window has closed a block, so the window is taken
 marked : (c : After-mark_zeros-index) → let r = reached_by c.args.encoder in let s = start_with c.args.dest.now r c.args.source.now in
     IsMasked s 0 (length c.args.source.now) (next_of r) c.copy_window-mask.result c.args.encoder.index c.copy_window-mask.new.dest
     → WindowTaken s c.mark_zeros-index.new.dest 0 (length c.args.source.now) c.mark_zeros-index.result (next_of r)
 marked c w = masked-end (c.mark_zeros-index.ensures _ _ _ (c.mark_first-index.ensures.marks _ _ _ (c.mark_first-first.ensures.marks _ _ _ w))) refl
 
--- the open block isn't full, as `encoder_at` requires
+-- the open block begins before the next byte, and isn't full, as `encoder_at` requires
 pub encoder_at-requires-2 : goal.encoder_at-requires-2
 encoder_at-requires-2 c =
     let at = goal.at.encoder_at-requires-2 c in
@@ -54,6 +54,6 @@ returns c =
     let at = goal.at.returns c in
     window-front (marked at.After-mark_zeros-index (copied at.After-copy_window-mask)) (omega arith) c.encoder_at-2.ensures
 
--- if the mask is 0, the window has no zero, and is taken at once
+-- if the mask is 0, the window has no zero, and it is taken without a call of `mark_first`
 pub returns-then-mask-eq0 : goal.returns-then-mask-eq0
 returns-then-mask-eq0 c = window-front (masked-end (copied (goal.at.returns-then-mask-eq0 c).After-copy_window-mask) c.if-mask-eq0.true) (omega arith) c.encoder_at.ensures

@@ -1,4 +1,4 @@
--- Each iteration takes one of these: a window without a zero (`masked-end`), a window whose zeros are marked
+-- Each iteration takes one of these: a window without a zero (`masked-end`), a window whose zeros close blocks
 -- (`masked-step`), one or more windows of zeros (`row-taken`), or the bytes that fill the open block (`filled`).
 use Rattle.std.proofs.Common.{ℕ, ◌≡◌, refl, ◌≢◌, ◌<◌, ◌≤◌, ◌+◌, ◌-◌, min, arith, length, take, drop, length-drop}
 use lib.Count.{count_trailing_zeros}
@@ -47,7 +47,7 @@ module _ (c : After-copy_at-window) where
       → IsMasked start c.by_window.read 32 c.by_window.next (without_lowest zeros) first (set c.copy_at-window.new.dest c.by_window.index (first - c.by_window.index))
   coded some near = masked-step (masked-start copied (omega arith)) some
 
--- a source that is no longer than a window is left as it is
+-- if the source is no longer than a window, no byte of it is taken
 pub returns-then-source-le-WINDOW-clause-taken : goal.returns-then-source-le-WINDOW-clause-taken
 returns-then-source-le-WINDOW-clause-taken c = grind (arith, common_steps)
 
@@ -57,7 +57,7 @@ by_window-init c =
     let short = c.requires.place.not_full in
     record { more = omega arith; open' = omega arith; reaches = Reaches-weaker (reaches-start c.requires.some c.requires.place.some short) (grind arith) }
 
--- a window without a zero is taken, and leaves its block open
+-- a window without a zero is taken, and the open block stays open
 pub by_window-preserved-then-next-index : goal.by_window-preserved-then-next-index
 by_window-preserved-then-next-index c =
     let w = copied (goal.at.by_window-preserved-then-next-index c).After-copy_at-window in
@@ -68,8 +68,8 @@ by_window-preserved-then-next-index c =
 pub mark_zeros-index-requires : goal.mark_zeros-index-requires
 mark_zeros-index-requires c = (_, _, _, coded (goal.at.mark_zeros-index-requires c).After-copy_at-window c.if-window-eq0.false (omega arith))
 
--- `write_codes_of_zeros` has written the codes of a row of zeros, so these zeros are taken; there is at least one, and
--- a byte is left
+-- `write_codes_of_zeros` has written the codes for n zeros, so these zeros are taken; there is at least one zero, and a
+-- byte is left after them
 row : (c : After-write_codes_of_zeros-zeros) → let s = start_with c.args.dest.now (reached_by c.args.encoder) c.args.source.now in let n = c.write_codes_of_zeros-zeros.result in
     CopiedWindow s c.copy_at-window.new.dest c.by_window.read 32 c.by_window.index c.by_window.next c.copy_at-window.result
     → WindowTaken s c.write_codes_of_zeros-zeros.new.dest c.by_window.read n (c.by_window.next + n - 1) c.by_window.next × (0 < n) × (c.by_window.read + n < length c.args.source.now)
@@ -89,14 +89,14 @@ row c w =
     -- last of the n ones is at the place of the next block's code.
     (row-taken (w.copied.reaches) w.short fits c.write_codes_of_zeros-zeros.result some (omega arith) written.zeros written.written, some, omega arith)
 
--- a window that has only zeros begins a row of zeros, which is taken
+-- a window that has only zeros is taken, together with the zeros after it that `write_codes_of_zeros` has found (`row`)
 pub by_window-preserved-then-window-eq-ALL_ZEROS : goal.by_window-preserved-then-window-eq-ALL_ZEROS
 by_window-preserved-then-window-eq-ALL_ZEROS c =
     let at = goal.at.by_window-preserved-then-window-eq-ALL_ZEROS c in
     let t = row at.After-write_codes_of_zeros-zeros (copied at.After-copy_at-window) in
     grind arith
 
--- the row isn't empty, so fewer bytes are left
+-- at least one zero is taken (`row`), so fewer bytes are left
 pub by_window-smaller-then-window-eq-ALL_ZEROS : goal.by_window-smaller-then-window-eq-ALL_ZEROS
 by_window-smaller-then-window-eq-ALL_ZEROS c =
     let at = goal.at.by_window-smaller-then-window-eq-ALL_ZEROS c in
@@ -109,14 +109,14 @@ by_window-preserved c =
     let taken = masked-end (c.mark_zeros-index.ensures _ _ _ (coded (goal.at.by_window-preserved c).After-copy_at-window c.if-window-eq0.false (omega arith))) refl in
     grind arith
 
--- The test of whether the open block has room was false in this iteration, if the window has a zero and if it has none.
--- So the window's first zero, or its end, comes after the open block is full.
+-- In this iteration, the test of whether the open block has room was false, whether or not the window has a zero. So
+-- the bytes before the window's first zero, or all its bytes if it has no zero, fill the open block.
 none-near : (c : Joined-window-eq0) → (c.copy_at-window.result ≢ 0 → lowest c.copy_at-window.result < 32)
     → c.by_window.index + 255 - c.by_window.next ≤ min (lowest c.copy_at-window.result) 32
 none-near c first = grind (arith, lowest-none)
 
--- the bytes before the window's first zero (all its bytes if it has none) fill the open block, so the call ends after
--- them
+-- the bytes before the window's first zero (all its bytes if it has none) fill the open block, and the call ends with
+-- the byte that fills it
 pub returns-in-by_window : goal.returns-in-by_window
 returns-in-by_window c =
     let at = goal.at.returns-in-by_window c in

@@ -1,5 +1,5 @@
 -- The first `read` bytes of the source are taken (`Reaches`), the open block has room for a byte (`open'`), and a byte
--- is left (`more`). After the last window (`last`), the frame doesn't end in a full block. The loop ends, because each
+-- is left (`more`). Once `read` is at least `last`, the frame doesn't end in a full block. The loop ends, because each
 -- iteration takes bytes.
 use Rattle.std.proofs.Common.{◌≡◌, ◌<◌, ◌≤◌, ◌-◌, ◌+◌, false, length}
 use Rattle.cobs.specs.Fields.Progress.{reached_by}

@@ -1,5 +1,5 @@
--- With its last code written the slice holds the whole frame, by `closed-open`. If no code is written, the frame ends
--- in a full block (`closed-full`), because an open one has room.
+-- With the open block's code, the slice has the whole frame (`closed-open`). If no code is written, the frame ends in a
+-- full block (`closed-full`), because otherwise the place of the code is within the slice.
 use Rattle.std.proofs.Common.{arith}
 use Rattle.cobs.proofs.encoding.AfterLemmas.{closed-full, closed-open}
 use Rattle.cobs.proofs.enc.blocks.close_block.Goals as goal

@@ -1,4 +1,4 @@
--- One zero of each window that the mask describes is marked, by `masked-first`.
+-- In each window that the mask describes, the next zero closes the open block, if a zero is left (`masked-first`).
 use Rattle.std.proofs.Common.{refl, arith}
 use Rattle.cobs.proofs.encoding.MarkLemmas.{masked-first, masked-ordered}
 use Rattle.cobs.proofs.enc.blocks.mark_first.Goals as goal

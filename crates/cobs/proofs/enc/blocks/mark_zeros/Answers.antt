@@ -1,4 +1,5 @@
--- After each iteration the mask still describes the window, by `marks` of `mark_first`.
+-- After the first call of `mark_first` in an iteration, the mask still describes the window (clause `marks`), so the
+-- second call meets its `requires`.
 use Rattle.std.proofs.Common.{arith}
 use Rattle.cobs.proofs.enc.blocks.mark_zeros.Goals as goal
 

@@ -1,4 +1,4 @@
--- Each turn writes one row of ones after those so far (`three-next`).
+-- Each iteration writes 32 ones after the ones that were already written (`three-next`).
 use Rattle.std.proofs.Common.{◌+◌, ◌++◌, List, ℕ, take, drop, replicate, ap, ◌∙◌, arith, length-drop, length-take-le}
 use Rattle.std.proofs.Math.Seq.{take-add}
 use Rattle.std.proofs.lemmas.List.{length-replicate, replicate-append-replicate}

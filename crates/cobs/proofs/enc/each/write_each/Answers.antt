@@ -50,6 +50,7 @@ module _ {old source slice : List ℕ} {pos index next : ℕ} (some : 0 < length
   -- the slice begins with the encoded frame, if the last block isn't full (`inl`), and if it is full (`inr`)
   whole-frame : IsEncodedFrame (take next (set slice index (next - index))) source
   whole-frame =
+      -- the frame ends at `encoded_len`, which is within the slice
       let end = whole-fits old source some in
       let r' : Reaches (start old source) slice (length source) index next IsNotFull = rw (← last) r in
       elim (cases_lt next (index + 255)) [

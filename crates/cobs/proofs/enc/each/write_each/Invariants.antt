@@ -1,6 +1,6 @@
 -- The first `read` bytes of the source are taken (`Reaches`). In the inner loop, which goes through a part, the first i
--- bytes of the part are taken too, and the open block has room for the others (`open'`). The outer loop ends, because
--- each iteration takes bytes.
+-- bytes of the part are taken too, and the open block has room for the others (`open'`). Once a byte of the part is
+-- taken, the frame doesn't end in a full block. The outer loop ends, because each iteration takes bytes.
 use Rattle.std.proofs.Common.{◌≡◌, ◌<◌, ◌≤◌, ◌+◌, ◌-◌, false, length}
 use Rattle.cobs.specs.Internal.Reaches.{Reaches, start_with}
 use Rattle.cobs.specs.OpenBlock.{place_at}

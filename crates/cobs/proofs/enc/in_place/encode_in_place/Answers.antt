@@ -1,5 +1,5 @@
--- The frame so far ends before the bytes that are still to be read (`encoded_len-le`), so each of these is as it was
--- (`there`).
+-- The frame so far ends before the bytes that are still to be read (`encoded_len-le`), so each of these bytes is still
+-- as it was before the call (`there`).
 use Rattle.std.proofs.Common.{◌≡◌, ◌<◌, ◌≤◌, ◌+◌, ◌-◌, ◌++◌, ℕ, List, [], ◌∷◌, drop, take, get_or, sym, ◌∙◌, arith, length, length-drop, length-take}
 use Rattle.std.proofs.lemmas.List.{get_or-drop, length_push, take_more}
 use Rattle.cobs.specs.Fields.Progress.{reached_by}
@@ -49,13 +49,13 @@ append_byte-requires c =
 pub by_byte-preserved : goal.by_byte-preserved
 by_byte-preserved c =
     let old : List ℕ = c.args.buffer.now in
-    -- the index of the next byte in the buffer, at which it was before the call too
+    -- the message begins at index `before` of the buffer, and its next byte is at index `at`
     let before : ℕ = c.max_encoding_overhead-before.result in
     let at : ℕ = before + c.by_byte.taken in
     let r : Reached = reached_by c.by_byte.encoder in
     let i = c.by_byte.invariant in
-    -- facts for the tactics: the encoder takes the byte (`e`), the frame so far ends at `end_of r` (`end`), and it is
-    -- no longer than `max_encoded_len` says (`most`)
+    -- facts for the tactics: the encoder takes the byte (`e`), the frame so far ends at `end_of r` (`end`), and this
+    -- frame is no longer than `max_encoded_len` says (`most`)
     let taken_long = length-take c.by_byte.taken (drop before old) in
     let e = c.append_byte.ensures.taken [] (fits-one _ c.args.len i.after (omega arith) (omega arith)) in
     let long = length-drop before old in

@@ -1,6 +1,6 @@
--- The frame is counted run by run: `open_len-run` for the bytes of a run, and `len-end` or `len-zero` for its end. If a
--- zero is among the next bytes, as many as could fill the open block, the bytes up to the last such zero are skipped
--- (`skipped`).
+-- The frame is counted run by run: `open_len-run` counts the bytes of a run, and `len-zero` or `len-end` counts the end
+-- of the run. If one of the bytes that would fill the open block is a zero, the bytes up to the last such zero are
+-- skipped (`skipped`).
 use Rattle.std.proofs.Common.{◌≡◌, ◌+◌, ◌/◌, ◌<◌, length, drop, arith, length-drop}
 use Rattle.std.proofs.lemmas.List.{get_or-take, get_or-drop, take_rest}
 use Rattle.cobs.specs.Length.{open_len}
@@ -29,12 +29,12 @@ stopped : (c : After-position_or_len-more) → c.by_run.read + c.position_or_len
     + open_len 1 (drop (c.by_run.read + c.position_or_len-more.result + 1) c.args.source.now)
 stopped c more = grind (arith, take_rest, get_or-drop, joined, len-zero)
 
--- the number of full blocks is small enough for the sum, because the length of the frame is bounded (`open_len-most`)
+-- the new number of full blocks doesn't overflow, because the length of the frame is bounded (`open_len-most`)
 pub overflow_add-counted-in_default : goal.overflow_add-counted-in_default
 overflow_add-counted-in_default c =
     grind (arith, open_len-most)
 
--- a zero was found before the open block could be full, and the bytes up to it are skipped
+-- a zero was found among the bytes that would fill the open block, and the bytes up to this zero are skipped
 pub by_run-preserved-in-Some : goal.by_run-preserved-in-Some
 by_run-preserved-in-Some c =
     grind (arith, get_or-drop, get_or-take, skipped)
@@ -45,6 +45,6 @@ by_run-preserved c =
     let end = stopped (goal.at.by_run-preserved c).After-position_or_len-more (grind arith) in
     grind (arith, take_rest)
 
--- the bytes that are left can't fill the open block, and the frame fits
+-- the bytes that are left fit into the open block, so they need no further code, and the frame fits
 pub returns-then-held-counted-clause-fits : goal.returns-then-held-counted-clause-fits
 returns-then-held-counted-clause-fits c = grind (arith, length-drop, open_len-most)

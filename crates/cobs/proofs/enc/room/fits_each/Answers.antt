@@ -1,12 +1,13 @@
--- The invariant compares the bytes that the frame still needs (`open_len`) with those that are left. `len-full`,
--- `len-byte` and `len-zero` say how a full block and a byte change the first number, and `len-end` is its value at the
--- end.
+-- The invariant relates the number of bytes that the frame still needs (`open_len`) to the number of spare bytes that
+-- are left (`left`). `len-full`, `len-byte` and `len-zero` say how a full block and a byte change the first number, and
+-- `len-end` gives its value at the end.
 use Rattle.std.proofs.Common.{◌≡◌, ◌<◌, ◌+◌, arith, drop, length-drop}
 use Rattle.cobs.specs.Length.{open_len}
 use Rattle.cobs.proofs.encoding.OpenLenLemmas.{len-full, len-end, len-byte, len-zero}
 use Rattle.cobs.proofs.enc.room.fits_each.Goals as goal
 
--- a full block needs a spare byte, and no spare byte is left, so the frame doesn't fit
+-- a full block has used the last spare byte, so no byte is left for the code of the next block, and the frame doesn't
+-- fit
 pub returns-then-left-eq0 : goal.returns-then-left-eq0
 returns-then-left-eq0 c = grind (arith, len-full, length-drop)
 
@@ -17,6 +18,7 @@ returns c = grind (arith, len-end)
 -- one more byte is counted
 pub by_byte-preserved : goal.by_byte-preserved
 by_byte-preserved c =
+    -- a byte is left, as `len-full` needs
     let next = c.by_byte-test.true in
     -- after a full block is closed, the invariant holds for an open block that has room for the byte
     let ready : (c.if-taken-eq-FULL_BLOCK_BYTES.taken < 254) × (0 < c.if-taken-eq-FULL_BLOCK_BYTES.left)

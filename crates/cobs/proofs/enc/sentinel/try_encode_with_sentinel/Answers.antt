@@ -1,5 +1,5 @@
--- XOR with the sentinel twice changes nothing (`xor_each-twice`), so the changed bytes are a frame for that sentinel,
--- in which it doesn't occur (`encoded_free`).
+-- XOR with the sentinel twice changes nothing (`xor_each-twice`), so the XORed bytes are a frame for the sentinel. The
+-- sentinel doesn't occur in this frame (`encoded_free`).
 use Rattle.std.proofs.Common.{arith, length-take-le, take_at}
 use Rattle.cobs.proofs.format.SentinelLemmas.{encoded_free, xor_each-twice}
 use Rattle.cobs.proofs.enc.sentinel.try_encode_with_sentinel.Goals as goal

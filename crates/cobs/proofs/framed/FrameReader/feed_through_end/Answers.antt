@@ -1,5 +1,6 @@
--- By the clause of `feed_piece`. A piece that ended is the first piece of the bytes that were read
--- (`EndsFirstIn-taken`). If no piece ended, the decoder has taken all bytes.
+-- The clauses follow from the clause `takes` of the decoder's `feed_piece`. If a piece ended, it is the first piece
+-- that ends in the bytes that were passed (`EndsFirstIn-taken`). If no piece ended, the decoder has taken all these
+-- bytes.
 use Rattle.std.proofs.Common.{arith, ℕ, List, [], length, refl}
 use Rattle.std.proofs.Math.Bridge.{le_prop}
 use Rattle.std.proofs.Math.Logic.{∥∥₁_elim, ∥∥₁_map}
@@ -13,8 +14,9 @@ use Rattle.cobs.proofs.streaming.FeedLemmas.{DecoderAfter-idle}
 use Rattle.cobs.proofs.streaming.ReadingLemmas.{HasTaken-any, EndsFirstIn-taken, HasDecoded-taken}
 use Rattle.cobs.proofs.framed.FrameReader.feed_through_end.Goals as goal
 
--- the reported number is at most the length of the buffer: the premise holds for some bytes that the decoder had taken,
--- whichever these are
+-- If each x of a type X shows that `next` means an outcome (`IsOutcome`), the number that `next` reports is at most the
+-- length of the buffer. It is enough that X has an element: `∥ X ∥₁` says this without naming one. Here x is a front of
+-- a piece that the decoder may have been fed.
 next_within : {X : Type 0} (next : Next) (buffer : List ℕ) → ∥ X ∥₁ → (X → (outcome : Outcome) × IsOutcome next buffer outcome) → IsNextWithin (length buffer) next
 next_within (nexts.Message n) buffer some h = ∥∥₁_elim some le_prop (λ x. (h x).1.1)
 next_within (nexts.Broken count) buffer some h = ∥∥₁_elim some le_prop (λ x. (h x).1.1)
@@ -51,7 +53,8 @@ pub invariant_of-self-clause-has_taken : goal.invariant_of-self-clause-has_taken
 invariant_of-self-clause-has_taken g c = ∥∥₁_map c.args.self.now.has_taken (λ w. (
   _,
   record {
-    -- the decoder had been fed some front (`w.0`), and has now been fed its unended bytes after these bytes too
+    -- the decoder had been fed some front of a piece, `w.0`. After the call, it has been fed the unended bytes of `w.0`
+    -- followed by the bytes that were passed.
     after = c.in-None.ensures.takes.takes.after w.0 w.1.after;
     flag = grind arith;
   },

@@ -1,4 +1,5 @@
--- The invariant of the type, `has_taken`: a new reader's decoder has been fed no byte of the source.
+-- The invariant of the type, `has_taken`: the decoder of a new reader is idle (`c.requires`), so it has been fed no
+-- byte of a piece that hasn't ended.
 use Rattle.std.proofs.Common.{refl, []}
 use Rattle.cobs.proofs.framed.FrameReader.new.Goals as goal
 

@@ -1,6 +1,7 @@
--- A call begins without a read (`Going-start`), and each read that ends no piece adds one read (`Going-push`). For each
--- way in which the call can end, `ReadingLemmas` has a lemma whose name begins with `ReadsNext`: kept bytes, a failure,
--- the end of the source, a piece, too many reads. No step changes which buffer the decoder was lent (`same_loan`).
+-- `Going` of `ReadingLemmas` holds before the first read (`Going-start`), and after each read in whose bytes no piece
+-- ends (`Going-push`). For each way in which the call can end, `ReadingLemmas` has a lemma whose name begins with
+-- `ReadsNext`: a piece ends in the kept bytes, a read fails, the source ends, a piece ends in the bytes of a read, or
+-- too many reads were made. No step changes which buffer the decoder was lent (`same_loan`).
 use Rattle.std.proofs.Common.{◌≡◌, [], subst, take, Some, arith}
 use Rattle.cobs.proofs.streaming.ReadingLemmas.{Going-start, Going-push, ReadsNext-kept, ReadsNext-failed, ReadsNext-end, ReadsNext-piece, ReadsNext-too_many, front_rest, empty_range, left_of_range}
 use Rattle.cobs.proofs.framed.FrameReader.next_frame.Goals as goal
@@ -33,8 +34,8 @@ by_read-preserved g c =
     let emptied : r.start ≡ r.end = grind arith in
     record {
       emptied = emptied;
-      -- for each front q that the decoder had been fed, no piece ended in the bytes of this read (`t`), so one more
-      -- read is made
+      -- for each front q that the decoder may have been fed before this read, no piece ended in the bytes of this read
+      -- (`t`), so `Going` holds for one read more
       going = Going-push _ _ (grind arith) c.by_read.invariant.going
           c.in-Some-read_some.ensures.step e.len (λ q b.
           let t = e.none q b in

@@ -1,7 +1,7 @@
 -- The fields of `FrameLaw`. `fed` and `fed_only` are about the zero after a frame, and `taken`, `taken_only` and `ends`
 -- about `feed_piece`; all five are lemmas of `FrameTaken`. `pushed` and `pushed_only`, about a push, are the two
--- directions of `push_reads`. The variables: w and t are the record of the call, h says that f was fed, and r that f is
--- a frame of m.
+-- directions of `push_reads`. The variables: w or t is the record of the call, h says that f was fed, and r that f is a
+-- frame of m.
 use Rattle.cobs.proofs.streaming.FrameTaken.{fed-only, fed-reads, taken-only, taken-piece, taken-reads}
 use Rattle.cobs.proofs.streaming.PushHeadline.{push_reads}
 use Rattle.cobs.proofs.decoding.ReadsLemmas.{frame_piece}

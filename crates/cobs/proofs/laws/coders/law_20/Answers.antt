@@ -1,5 +1,6 @@
--- How to find the output of a piece, block by block: a whole block before other bytes by `front-whole` and `front-kept`, and a last
--- block by `KeptLemmas`.
+-- How to find the output of a piece, block by block. `front-whole` and `front-kept` are about a block before other
+-- bytes, `output-last` and `block-whole` about a single block, `broken-part` and `kept-broken` about bytes that are
+-- fewer than the first code says, and `all-kept` about a whole piece.
 use Rattle.std.proofs.Common.{arith}
 use Rattle.cobs.proofs.decoding.KeptLemmas.{all-kept, block-whole, broken-part, front-kept, front-whole, kept-broken}
 use Rattle.cobs.proofs.decoding.PieceCuts.{output-last}

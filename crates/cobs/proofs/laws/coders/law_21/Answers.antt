@@ -1,6 +1,6 @@
 -- The outcomes of a stream after `feed_piece` has taken its first piece. A piece that was taken ends with a zero, and
 -- after a zero no byte is unended. So the outcomes of the rest of the stream don't depend on the piece
--- (`reported_first`, by `stream_outcomes-append`), nor do its unended bytes (`left_behind`).
+-- (`reported_first`, by `stream_outcomes-append`), and neither do the unended bytes of the stream (`left_behind`).
 use Rattle.std.proofs.Common.{arith, ◌≡◌, ℕ, List, [], ◌∷◌, ◌++◌, length, take, drop, sym, Some}
 use Rattle.std.proofs.lemmas.List.{take-append-drop}
 use Rattle.cobs.specs.Feed.{Phase, Idle}

@@ -1,4 +1,4 @@
--- The register is the result of the division for the bytes before the index (`register`).
+-- The register is the result of the division for the bytes that the loop has gone through (`register`).
 use Rattle.std.proofs.Common.{◌≡◌, take}
 use Rattle.cobs_live.specs.Crc.{register}
 use Rattle.cobs_live.proofs.checksum.Checksum.crc.Given as goal

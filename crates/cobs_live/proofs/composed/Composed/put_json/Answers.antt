@@ -1,6 +1,6 @@
--- The parts of the object are written one after another (`Appends-trans`). `numbered` is the part up to the number,
--- after which an untimed piece has nothing, and `kind` is the kind and the message. The write of the last part may fail
--- (`on_ok`).
+-- The parts of the object are written one after another (`Appends-trans`). `numbered` is the part up to the number; no
+-- time follows it, because the piece is untimed. `kind` is the kind and the message. The write of the last part may
+-- fail (`on_ok`).
 use Rattle.std.proofs.KnownBytes.{Appends-nil, Appends-trans}
 use Rattle.cobs_live.proofs.ComposedLemmas.{on_ok}
 use Rattle.cobs_live.proofs.composed.Composed.put_json.Goals as goal

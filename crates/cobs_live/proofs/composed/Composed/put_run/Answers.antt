@@ -1,5 +1,5 @@
--- The call adds the visible run and, if a character follows the run, the escape of that character (`front_escaped`). If
--- none follows, the text has ended (`front_ended`).
+-- The call adds the run (the bytes at the front of the text that need no escape) and, if a character follows the run,
+-- the escape of that character (`front_escaped`). If none follows, the text has ended (`front_ended`).
 use Rattle.std.proofs.Common.{◌≡◌, ◌++◌, ℕ, List, length, take, drop, rules}
 use Rattle.std.proofs.KnownBytes.{Appends-trans}
 use Rattle.std.specs.Char.{encode_utf8}

@@ -77,8 +77,8 @@ returns-in-Err-clause-shown g c = λ settings from before s.
     next-failed (assumption c.law_9.ensures) s _ _ c.in-Err.fault c.in-Err.ensures.failed.0
     (shown-ended (assumption c.law_9.ensures) s (nothing-read (assumption c.law_9.ensures) s _ c.in-Err.ensures.failed.1) c.in_ok-end-in-Err.ensures.shown)
 
--- after a read that returned bytes, the run goes on: it is live, and the results of its reads are the bytes so far and
--- these bytes
+-- after a read that returned bytes, the run goes on: it is live, and the results of its reads are the results so far
+-- and these bytes
 pub returns-clause-goes_on : goal.returns-clause-goes_on
 unfolding returns-clause-shown
 returns-clause-goes_on g c = λ yes settings start from before s. record {

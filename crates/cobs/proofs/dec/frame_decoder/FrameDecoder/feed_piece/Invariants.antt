@@ -1,5 +1,6 @@
--- The decoder has taken the first i bytes, and no piece has ended in them (`TakesPiece` with `None`). It is still over
--- the same slice (`loan`). `l.fn.self` is the decoder before the call, and `l.self` the decoder now.
+-- The decoder has taken the first i bytes, and no piece has ended in them (`TakesPiece` with `None`). Its buffer is
+-- still the same slice (`loan`). `l.fn.self` is the decoder before the call, and `l.self` is the decoder at the start
+-- of the iteration.
 use Rattle.std.proofs.Common.{◌≡◌, take, None}
 use Rattle.cobs.specs.FeedPiece.{TakesPiece}
 use Rattle.cobs.proofs.dec.frame_decoder.FrameDecoder.feed_piece.Given as goal

@@ -1,5 +1,6 @@
--- The result, the buffer and the phase are those of the machine of `Step` (the `ensures` of the method `step`). So
--- `Feeds` and the table hold as they do for the machine (`Feeds-as`, `FeedsByTable-step`).
+-- The result, the buffer and the phase are those that specs/Step.antt defines for a byte, as the `ensures` of the
+-- method `step` says. So `Feeds` and `FeedsByTable` hold as they do for these definitions (`Feeds-as`,
+-- `FeedsByTable-step`).
 use Rattle.std.proofs.Common.{arith}
 use Rattle.cobs.proofs.streaming.FeedLemmas.{Feeds-as}
 use Rattle.cobs.proofs.streaming.TableLemmas.{FeedsByTable-step}

@@ -1,5 +1,5 @@
--- Each byte, XORed with the sentinel, is fed to the machine of `Step`. It continues the piece (`next`, by
--- `piece-more`), or it is a zero that ends the piece (`ended`, by `piece-ended`).
+-- Each byte, XORed with the sentinel, is fed to the machine, that is, to the decoder that specs/Step.antt defines. The
+-- byte ends no piece (`next`, by `piece-more`), or it is a zero that ends the piece (`ended`, by `piece-ended`).
 use Rattle.std.proofs.Common.{◌≡◌, ◌<◌, ◌∙◌, ◌+◌, None, Some, take, ℕ, List, Result, Option, length, get_or, sym, ap, refl, arith}
 use Rattle.std.proofs.lemmas.List.{get_or-map, length-map, take_all}
 use Rattle.std.specs.Int.Bits.{bit_xor}

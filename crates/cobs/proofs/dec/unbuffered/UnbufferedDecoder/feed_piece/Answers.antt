@@ -1,5 +1,6 @@
--- Either the bytes before a zero are fed quietly (`take_front`, `take_short`), and the zero after them ends the piece;
--- or these two functions take no byte (`kept`), and the other functions feed the bytes (`feed_each`, `take_to_end`).
+-- Either `take_front` feeds the bytes before the first zero quietly (`FeedsQuietly`), and this zero ends the piece; or
+-- `take_front` or `take_short` feeds all bytes quietly, and no piece ends. If these two functions take no byte
+-- (`kept`), `feed_each` or `take_to_end` feeds the bytes. "The machine" is the decoder that specs/Step.antt defines.
 use Rattle.std.proofs.Common.{◌≡◌, ◌≢◌, ◌∙◌, ◌<◌, List, ℕ, zero, suc, Bool, true, false, Option, Result, None, refl, sym, ap, arith, get_or, length, take, take_all}
 use Rattle.cobs.specs.Feed.{Feeds, Phase, Idle, Within, Overlong}
 use Rattle.cobs.specs.Fields.Decoders.{phase_of, phase_with}

@@ -1,5 +1,5 @@
--- There is no room for the byte at index `start`, so no piece ends in it (`piece-more`), and the piece is too long. The
--- bytes after it, up to a zero, don't end the piece (`piece-over`).
+-- The byte at index `start` isn't a zero, so it ends no piece (`piece-more`). There is no room for its output, so the
+-- piece is then too long. The bytes after it, up to the next zero, don't end the piece (`piece-over`).
 use Rattle.std.proofs.Common.{◌≡◌, ◌+◌, ◌-◌, ℕ, List, refl, arith, length, drop, length-drop, length-take}
 use Rattle.std.proofs.lemmas.List.{take_rest}
 use Rattle.cobs.specs.Feed.{Overlong}

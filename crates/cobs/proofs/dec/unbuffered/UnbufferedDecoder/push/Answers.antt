@@ -1,5 +1,5 @@
--- A short push that was taken at once is a run in which no piece ends (`pushed_fed`). Otherwise the buffer and the
--- state are as before the call, so `push_long` begins from them.
+-- If `take_short` takes the bytes, all of them are fed quietly (`FeedsQuietly`), so no piece ends in them
+-- (`pushed_fed`). Otherwise the buffer and the state are as before the call, so `push_long` begins from them.
 use Rattle.std.proofs.Common.{List, ℕ, arith, length}
 use Rattle.std.proofs.Math.Seq.{take-length}
 use Rattle.cobs.proofs.streaming.PushLemmas.{Pushed-start, pushed_none, pushed_fed}

@@ -1,6 +1,6 @@
--- Each iteration feeds a run (`ran`), and then the byte after the run. This byte continues the call (`Pushed-more`), or
--- ends it with a message (`pushed_some`) or an error (`pushed_error`). After the last byte the call ends without either
--- (`pushed_none`).
+-- Each iteration feeds the bytes that `take_at_once` takes (`ran`; they are called the run here), and then the byte
+-- after the run. This byte continues the call (`Pushed-more`), or ends it with a message (`pushed_some`) or an error
+-- (`pushed_error`). After the last byte the call ends with neither of the two (`pushed_none`).
 use Rattle.std.proofs.Common.{◌+◌, ◌∙◌, ap, arith, Ok, length-take}
 use Rattle.cobs.specs.Fields.Decoders.{phase_of}
 use Rattle.cobs.proofs.streaming.PushLemmas.{Pushed, Pushed-start, Pushed-more, pushed_fed, pushed_none, pushed_some, pushed_error}

@@ -1,5 +1,5 @@
 -- The bytes before index `at` are fed, and each of them returned `Ok(None)` (`Pushed`). `l.fn.self` is the decoder
--- before the call, and `l.self` the decoder now.
+-- before the call, and `l.self` is the decoder at the start of the iteration.
 use Rattle.std.proofs.Common.{length, ◌-◌, ◌≤◌}
 use Rattle.cobs.specs.Fields.Decoders.{phase_of}
 use Rattle.cobs.proofs.streaming.PushLemmas.{Pushed}

@@ -13,6 +13,6 @@ invariant-by_step l = record {
   fed : FeedsQuietly l.fn.dest (phase_of l.fn.self) (take l.taken (xor_each l.sentinel l.bytes)) l.dest (phase_of l.here);
 }
 
--- each step takes at least one byte; if a step takes none, the loop ends
+-- each iteration takes at least one byte, unless it ends the loop
 abbrev pub decreases-by_step : goal.decreases-by_step
 decreases-by_step l = length l.bytes - l.taken

@@ -15,7 +15,8 @@ use Rattle.cobs.proofs.streaming.WalkLemmas.{fed_piece, length-walked, IsWalked}
 use Rattle.cobs.proofs.dec.unbuffered.UnbufferedDecoder.take_front.Goals as goal
 use Rattle.cobs_bytes.proofs.bytes.XoredLemmas.{xor_each-zero}
 
--- 2 to 65 bytes of a piece; those after the first byte were copied to the front of `dest`, which is now `copied`
+-- `bytes` are 2 to 65 bytes of a piece. Those after the first byte were copied to the front of `dest`; `copied` is the
+-- buffer after this copy.
 module _ (bytes dest copied : List ℕ) (some : 1 < length bytes) (few : length bytes ≤ 65) (nz : HasNoZero bytes)
     (is : copied ≡ over 0 dest (take (length bytes - 1) (drop 1 bytes))) where
   abbrev codes : List ℕ

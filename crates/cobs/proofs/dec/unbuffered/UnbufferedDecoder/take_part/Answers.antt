@@ -1,5 +1,5 @@
--- Only the case of a row of blocks without bytes is proved here: the zeros of the row are written at once, as if its
--- codes were fed (`row_fed`).
+-- Only the case of rows of blocks without bytes is proved here: the zeros for the rows are written at once, with the
+-- effect of feeding the codes of the rows (`row_fed`).
 use Rattle.std.proofs.Common.{arith}
 use Rattle.cobs.proofs.format.SentinelLemmas.{ones_xored}
 use Rattle.cobs.proofs.streaming.SpanLemmas.{row_fed}

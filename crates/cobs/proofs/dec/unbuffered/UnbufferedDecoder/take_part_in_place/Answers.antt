@@ -1,6 +1,6 @@
--- The bytes of one step in place are fed quietly. They are a code and the bytes of its block, which were moved back
--- unchanged (`rest_kept`, `block_fed`), a row of 32 blocks without bytes (`row_fed`), or a span that was moved and that
--- `take_moved` takes (`copied-there`).
+-- The bytes of one step in place are fed quietly (`FeedsQuietly`). They are one of the following: a code and the bytes
+-- of its block, which were moved back unchanged (`rest_kept`, `block_fed`); only a code, a case that the tactics prove;
+-- a row of 32 blocks without bytes (`row_fed`); or a span that was moved and that `take_moved` takes (`copied-there`).
 use Rattle.std.proofs.Common.{get_or, ◌≤◌, ◌+◌, ◌≡◌, ◌∷◌, ◌++◌, ◌∙◌, [], ℕ, List, take, drop, arith, length-drop, sym, ap}
 use Rattle.std.proofs.lemmas.List.{length-take-le, drop_more, drop-drop}
 use Rattle.cobs.specs.Fields.Decoders.{phase_of}
@@ -16,7 +16,7 @@ take_moved-requires-clause-nonzero c =
     let n : ℕ = c.span_len-len.result in
     let bytes : List ℕ = drop c.args.read c.args.buffer.now in
     let long = length-take-le n bytes (omega (arith, length-drop c.args.read c.args.buffer.now)) in
-    -- the bytes after the output are now the next n bytes of the frame (`copied-there`)
+    -- after the move, the bytes after the output are the next n bytes of the frame (`copied-there`)
     rw (sym (copied-there c.args.self.now.written n c.args.buffer.now c.move_back-2.new.buffer (take n bytes) (omega arith) long c.move_back-2.ensures)) at (part-nonzero 0 n _ bytes c.requires.nonzero (omega arith))
 
 -- a code and the n bytes of its block

@@ -1,5 +1,5 @@
--- The bytes before the first zero are XORed with 0, which changes nothing (`xor_each-zero`), and `take_blocks` has fed
--- them. If `take_blocks` stopped before the zero, there is no room for the next byte's output.
+-- The bytes before the first zero are XORed with 0, which changes nothing (`xor_each-zero`), and `take_blocks` feeds
+-- them. If `take_blocks` stops before the zero, there is no room for the next byte's output.
 use Rattle.std.proofs.Common.{length-take, arith}
 use Rattle.std.proofs.lemmas.Bool.{cases_lt}
 use Rattle.std.proofs.lemmas.List.{get_or-take, take-take}

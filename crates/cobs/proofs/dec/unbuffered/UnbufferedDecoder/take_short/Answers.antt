@@ -13,6 +13,6 @@ take_copied-requires-clause-copied c = grind (arith, part_put, xor_each-zero, co
 pub returns-clause-fed : goal.returns-clause-fed
 returns-clause-fed c done = grind (arith, part_put, xor_each-zero)
 
--- each condition under which the function declines contradicts the clause
+-- each condition under which the function takes no byte contradicts a premise of the clause `taken`
 pub returns-then-self-ne0-clause-taken : goal.returns-then-self-ne0-clause-taken
 returns-then-self-ne0-clause-taken c going few nz full room = grind (arith, xor_each-zero)

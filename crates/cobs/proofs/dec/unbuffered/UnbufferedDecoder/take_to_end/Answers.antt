@@ -1,5 +1,6 @@
--- Zeros outside a piece and then a run are fed quietly (`fed`), so no piece ends in them (`piece-all`). After the run a
--- piece is open (`open-after`).
+-- Zeros outside a piece are fed quietly (`FeedsQuietly`), and then the bytes that `take_run` takes (here called the
+-- run): `fed`. So no piece ends in these bytes (`piece-all`). If a byte follows the run, a piece is open after the run
+-- (`open-after`).
 use Rattle.std.proofs.Common.{◌≡◌, get_or, ◌+◌, ℕ, List, arith, take, drop, length-drop, length-take}
 use Rattle.std.proofs.lemmas.List.{take_rest}
 use Rattle.cobs.specs.Fields.Decoders.{phase_of}

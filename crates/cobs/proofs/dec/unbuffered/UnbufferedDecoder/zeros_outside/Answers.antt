@@ -1,5 +1,5 @@
--- If no piece has begun, the zeros are fed quietly (`quiet-zeros`), and the byte after them isn't a zero
--- (`leading_zeros-stop`). If a piece has begun, the function returns 0, and the tactics prove the clauses.
+-- If no piece has begun, the zeros are fed quietly (`FeedsQuietly`; `quiet-zeros`), and the byte after them isn't a
+-- zero (`leading_zeros-stop`). If a piece has begun, the function returns 0, and the tactics prove the clauses.
 use Rattle.std.proofs.Common.{refl, arith}
 use Rattle.std.proofs.lemmas.List.{get_or-drop}
 use Rattle.cobs.proofs.decoding.HeadLemmas.{leading_zeros-stop}

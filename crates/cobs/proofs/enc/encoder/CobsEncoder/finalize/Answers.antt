@@ -1,5 +1,5 @@
--- The slice holds the message's open frame, so closing its last block makes the frame, and its length is the end
--- (`end-is`). A frame has no zero (`encoded_nonzero`).
+-- `close` completes the frame of the message in the slice, and returns the frame's length (`end-is`). A frame has no
+-- zero (`encoded_nonzero`).
 use Rattle.std.proofs.Common.{◌∙◌, sym}
 use Rattle.cobs.proofs.encoding.AfterLemmas.{end-is}
 use Rattle.cobs.proofs.format.SentinelLemmas.{encoded_nonzero}

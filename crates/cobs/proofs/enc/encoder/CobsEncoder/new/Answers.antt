@@ -1,4 +1,5 @@
--- A new encoder is at the start of its slice (`start-place`), and has taken nothing.
+-- By the clauses of `UnbufferedEncoder::new`, the progress of a new encoder is possible in the slice, and the encoder
+-- has taken no byte.
 use Rattle.std.proofs.Common.{arith}
 use Rattle.cobs.proofs.enc.encoder.CobsEncoder.new.Goals as goal
 

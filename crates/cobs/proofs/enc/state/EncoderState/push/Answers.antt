@@ -1,6 +1,6 @@
--- The three steps of `OpenedLemmas` for the open block that an `EncoderState` stands for (`view_is`). The clause
--- `carried` is about any output of a caller. A frame with a placeholder is an output, so the clause `after` follows
--- from `carried`.
+-- The three cases are the lemmas `open-full`, `open-more` and `open-zero` for the open block that an `EncoderState`
+-- stands for (`view_is`). The clause `carried` is about any output of a caller. An open frame with a 0 in the place of
+-- its last code is such an output, so the clause `after` follows from `carried`.
 use Rattle.std.proofs.Common.{refl, arith}
 use Rattle.cobs.proofs.encoding.OpenedLemmas.{open-zero, open-more, open-full}
 use Rattle.cobs.proofs.enc.state.EncoderState.push.Goals as goal

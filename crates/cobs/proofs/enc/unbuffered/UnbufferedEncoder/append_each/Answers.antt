@@ -1,5 +1,5 @@
--- Each byte is one step more of the encoder (`front-next`): a zero closes the open block, another byte joins it, or
--- fills and closes it. There is room for it because the frame of the whole source fits.
+-- Each byte is one more step of the encoder (`front-next`): a zero closes the open block, and any other byte joins this
+-- block, or fills and closes it. There is room for each byte, because the frame of the whole source fits.
 use Rattle.std.proofs.Common.{◌≡◌, ◌<◌, ◌≤◌, ◌+◌, ◌-◌, List, ℕ, true, false, drop, get_or, length, length-drop, refl, sym, ap, ◌∙◌, arith}
 use Rattle.std.proofs.lemmas.List.{get_or-drop}
 use Rattle.cobs.specs.Internal.Taking.{TakesFront}

@@ -1,4 +1,5 @@
--- The three tests say exactly that the byte has room (`room-only`, `has-room`), and then `append_byte` takes it.
+-- There is room for the byte exactly if none of the three tests is true (`room-only`, `has-room`). Then `append_byte`
+-- takes the byte.
 use Rattle.std.proofs.Common.{[], ◌∷◌, length, refl, arith, rules}
 use Rattle.cobs.specs.Fields.Progress.{reached_by}
 use Rattle.cobs.specs.OpenBlock.{HasRoomFor}
@@ -9,7 +10,7 @@ use Rattle.cobs.proofs.encoding.AfterLemmas.{after-end, after-place}
 use Rattle.cobs.proofs.enc.unbuffered.UnbufferedEncoder.feed_len.Goals.{Joined-then-code-gt-FULL_BLOCK_BYTES, After-append_byte}
 use Rattle.cobs.proofs.enc.unbuffered.UnbufferedEncoder.feed_len.Goals as goal
 
--- if one of the tests failed, there is no room for the byte
+-- if one of the tests is true, there is no room for the byte
 none : (c : Joined-then-code-gt-FULL_BLOCK_BYTES) → HasRoomFor (length c.args.dest.now) (reached_by c.args.self.now) (c.args.byte ∷ []) → ⊥
 none c h =
     grind (arith, room-only c.args.self.now _ c.args.byte h)
@@ -25,7 +26,7 @@ returns-then-code-gt-FULL_BLOCK_BYTES-clause-fits c = λ m h.
     let end = after-end h (c.args.byte ∷ []) in
     (λ t. cc, λ le. absurd (none c (record { place = after-place h; fits = omega arith })))
 
--- if no test failed, there is room for the byte
+-- if none of the tests is true, there is room for the byte
 room : (c : After-append_byte) → HasRoomFor (length c.args.dest.now) (reached_by c.args.self.now) (c.args.byte ∷ [])
 room c = has-room c.args.self.now c.args.dest.now c.args.byte (omega arith) (omega arith)
 

@@ -1,5 +1,6 @@
--- The slice holds the message's open frame, so closing its last block makes the frame (`closed-open`), unless that
--- block is full (`closed-full`), and its length is the end (`end-is`). A frame has no zero (`encoded_nonzero`).
+-- The slice has the frame of the message, except the open block's code. This code completes the frame (`closed-open`);
+-- a frame that ends in a full block is complete without it (`closed-full`). The frame's length is `end_of` (`end-is`).
+-- A frame has no zero (`encoded_nonzero`).
 use Rattle.std.proofs.Common.{arith}
 use Rattle.cobs.proofs.encoding.AfterLemmas.{after-place, closed-full, closed-open, end-is}
 use Rattle.cobs.proofs.format.SentinelLemmas.{encoded_nonzero}

@@ -1,7 +1,7 @@
 -- Only the clauses `fits`, `taken` and `rest` are proved here. `taken` and `rest` follow from the step that has taken
--- the bytes (`all-after`, `all-rest`), whose progress `set` copies to the encoder. For `fits`, the length of the frame
--- of all bytes so far is `end_after` (`after-end`), so there is room for the frame exactly if there is room up to that
--- index, on each way out.
+-- the bytes (`all-after`, `all-rest`), whose progress `set` copies to the encoder. For `fits`: the frame of all bytes
+-- so far ends at `end_after` (`after-end`), so it fits exactly if this index is at most the slice's length. Each goal
+-- is about one of the ways in which the call returns.
 use Rattle.std.proofs.Common.{append-nil, [], ◌≡◌, refl, arith}
 use Rattle.std.proofs.lemmas.Grind.{common_steps}
 use Rattle.cobs.proofs.encoding.AfterLemmas.{after-end, after-fits, after-place}
@@ -18,7 +18,8 @@ returns-then-is_empty-clause-fits c = λ m h.
     let none : c.args.bytes.now ≡ [] = grind (arith, common_steps) in
     rw (none, append-nil) (λ t. after-fits h, λ le. refl)
 
--- the bytes fit one window and the open block, and there is room for them, as `append_short` requires
+-- the frame with the bytes fits, as `append_short` requires, because the bytes can't fill the open block, and there is
+-- room for them
 pub append_short-requires-clause-fits : goal.append_short-requires-clause-fits
 append_short-requires-clause-fits c = grind (arith, short_room)
 
