@@ -424,7 +424,7 @@ pub fn law_13()
         → end_of reached ≡ encoded_len m }
 {}
 
-/// A decoder is idle exactly if no piece has begun.
+/// A decoder is idle if and only if no piece has begun.
 ///
 /// So [`FrameReader::new`](crate::FrameReader::new) accepts a decoder if the last byte that was fed to it was a zero.
 /// If a frame and the zero after it are pushed to a new decoder in one `push`, the decoder decodes the frame.

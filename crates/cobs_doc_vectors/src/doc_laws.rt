@@ -182,7 +182,7 @@ pub fn as_encoded<'a>(frame: &'a [u8], message: &[u8], index: usize, code: u8) -
 pub fn reader_after_zero(mut decoder: CobsDecoderOwned) -> FrameReader<CobsDecoderOwned>
     ensures { kept_of result ≡ [] }
 {
-    law_14(); // A decoder is idle exactly if no piece has begun
+    law_14(); // A decoder is idle if and only if no piece has begun
     let _ended = decoder.feed(0);
     FrameReader::new(decoder)
 }

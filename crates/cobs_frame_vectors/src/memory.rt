@@ -43,7 +43,7 @@ fn is_next_failing(alloc: Global) -> bool {
     false
 }
 
-/// Checks that the call returned an error exactly if one of its own allocations failed. Only one allocation of each
+/// Checks that the call returned an error if and only if one of its own allocations failed. Only one allocation of each
 /// test fails. So if no allocation after the call fails, an allocation of the call has failed. The test of a failed
 /// call ends with the words `out of memory`.
 fn check_growths(rt: &impl Abort, alloc: Global, returned: Result<(), AllocError>) {

@@ -39,8 +39,8 @@ use Rattle.cobs_live.specs.declared.fault.WatchFault.{WatchFault}
 use Rattle.cobs_live.specs.declared.fault.WatchFault.TheVariants.{OutOfMemory, OutputClosed, ReadFailed, WriteFailed}
 use Rattle.cobs_live.specs.declared.tally.Tally.{Tally}
 
--- after p, the front of a piece, the decoder is idle exactly if p is empty; so `begun`, which is false exactly if the
--- decoder is idle, says whether p isn't empty
+-- after p, the front of a piece, the decoder is idle if and only if p is empty; so `begun`, which is false if and only
+-- if the decoder is idle, says whether p isn't empty
 pub begun-after : (p : List ℕ) (n : ℕ) (phase : Phase) (begun : Bool) → phase ≡ phase_after p n → ((begun ≡ false) ↔ (phase ≡ Idle)) → begun ≡ is_nonempty p
 unfolding phase_after
 begun-after [] n phase begun is idle = idle.1 is
@@ -254,7 +254,7 @@ module _ (law : StreamLaw) {settings : Settings} {from to before after : Option 
   -- has been written
   pub shown-ended : {to' after' : Option (List ℕ)} → Consumes to to' [] → ShowsEnd (phase_of watch.decoder) watch.settings.now.view after after' → HasWritten (shown_ended settings) from to' before after'
   shown-ended {to' = to'} {after' = after'} r end =
-      -- a piece has begun exactly if the open line has unended bytes
+      -- a piece has begun if and only if the open line has unended bytes
       let is : end.begun ≡ is_nonempty (unended opened) = begun-after (unended opened) (length watch.message.items) (phase_of watch.decoder) end.begun s.taken.phased.phase_is end.idle in
       record {
         gone = s.ended.gone;
@@ -310,7 +310,7 @@ module _ (law : StreamLaw) {settings : Settings} {from to before after : Option 
   abbrev pub hung-up : {to' after' : Option (List ℕ)} {watch' : Watch} → to ≡ None → ShowsHangUp (phase_of watch.decoder) watch.settings.now.view after after' → BeginsAnew watch watch'
       → HasShownSoFar settings from to' before after' watch'
   hung-up {to' = to'} {after' = after'} {watch' = watch'} unknown shows anew =
-      -- a piece had begun exactly if the open line had unended bytes
+      -- a piece had begun if and only if the open line had unended bytes
       let is : shows.begun ≡ is_nonempty (unended opened) = begun-after (unended opened) (length watch.message.items) (phase_of watch.decoder) shows.begun s.taken.phased.phase_is shows.idle in
       record {
         ended = record {

@@ -14,7 +14,7 @@ max_input = 1048576
 pub record HasRead {A : Type 0} (old new : Option (List ℕ)) (result : Result A ToolFault) : Type 0 where
   pub bytes : List ℕ
   pub consumed : Consumes old new bytes
-  -- the call has read more bytes than the limit exactly if the result says that the input is too long
+  -- the call has read more bytes than the limit if and only if the result says that the input is too long
   pub too_long : (result ≡ Err InputTooLong) ↔ (max_input < length bytes)
   pub stopped : length bytes ≤ max_input + READ_LEN
   -- `bytes` is the whole input if the call succeeds or has begun to write

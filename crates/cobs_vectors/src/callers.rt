@@ -417,8 +417,8 @@ pub fn copy_of(report: &DecodeReport) -> DecodeReport
     }
 }
 
-/// Returns whether two reports are equal. Two reports are equal exactly if the messages have the same length, and the
-/// same number of bytes was consumed.
+/// Returns whether two reports are equal. Two reports are equal if and only if the messages have the same length, and
+/// the same number of bytes was consumed.
 pub fn are_same_reports(first: &DecodeReport, second: &DecodeReport) -> bool
     ensures { IsTrue result ↔ ((parsed_size_of first.now ≡ parsed_size_of second.now)
         × (frame_size_of first.now ≡ frame_size_of second.now)) }
@@ -426,8 +426,8 @@ pub fn are_same_reports(first: &DecodeReport, second: &DecodeReport) -> bool
     first == second
 }
 
-/// Returns whether two errors are equal. They are equal exactly if they are the same variant and, if the variant has
-/// the field `decoded_bytes`, have the same value in this field.
+/// Returns whether two errors are equal. They are equal if and only if they are the same variant and, if the variant
+/// has the field `decoded_bytes`, have the same value in this field.
 pub fn are_same_errors(first: &DecodeError, second: &DecodeError) -> bool
     ensures { IsTrue result ↔ (first.now ≡ second.now) }
 {

@@ -23,8 +23,8 @@ use std::alloc::{AllocError, Global};
 /// The code of a full block.
 const FULL: usize = 255;
 
-/// Takes the last bytes of a message and ends the message, whatever the state of the encoder is. Succeeds exactly if
-/// there is room.
+/// Takes the last bytes of a message and ends the message, whatever the state of the encoder is. Succeeds if and only
+/// if there is room.
 pub fn end_with(
     encoder: &mut UnbufferedEncoder,
     bytes: &[u8],

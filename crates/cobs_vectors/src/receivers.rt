@@ -33,8 +33,8 @@ pub fn end_piece<D: FrameDecoder>(decoder: &mut D) -> Option<usize>
     }
 }
 
-/// Passes a piece and its zero to any idle decoder. Returns the length of a message exactly if the piece is a frame of
-/// this message, and the message fits the buffer.
+/// Passes a piece and its zero to any idle decoder. Returns the length of a message if and only if the piece is a frame
+/// of this message, and the message fits the buffer.
 pub fn read_piece<D: FrameDecoder>(decoder: &mut D, ended: &[u8], piece: &[u8]) -> Option<usize>
     requires idle { D.phase decoder.old ≡ Idle }
     requires piece { IsPiece piece.now }
@@ -80,7 +80,7 @@ pub fn salvage<D: FrameDecoder>(decoder: &mut D, received: &[u8]) -> Option<(Pie
 {
     law_9(); // A stream may be cut anywhere
     law_12(); // The first and the last piece of a stream
-    law_14(); // A decoder is idle exactly if no piece has begun
+    law_14(); // A decoder is idle if and only if no piece has begun
     law_18(); // Streaming decoders return the message of each frame, and no other message
     decoder.feed_piece(received)
 }

@@ -41,7 +41,7 @@ pub fn encode_by_state(alloc: Global, source: &[u8]) -> Result<Vec<u8>, AllocErr
     Ok(output)
 }
 
-/// Encodes a message that comes in two chunks. The calls succeed exactly if the message's frame fits `dest`.
+/// Encodes a message that comes in two chunks. The calls succeed if and only if the message's frame fits `dest`.
 pub fn encode_both(
     first: &[u8],
     second: &[u8],

@@ -1,7 +1,7 @@
 -- If the list that is passed to `decode`, `decode_with_sentinel` or `decode_in_place_report` is a piece, the call
--- reports the outcome of this piece (`Reported`). So it returns the message m exactly if the piece is a frame of m that
--- fits the buffer (`returns-reads`, by `outcome_message` of `OutcomeLemmas`). The clauses of these three calls follow:
--- `decode_clauses`, `source_clauses` and `in_place_clauses`.
+-- reports the outcome of this piece (`Reported`). So it returns the message m if and only if the piece is a frame of m
+-- that fits the buffer (`returns-reads`, by `outcome_message` of `OutcomeLemmas`). The clauses of these three calls
+-- follow: `decode_clauses`, `source_clauses` and `in_place_clauses`.
 use Rattle.std.proofs.Common.{◌≡◌, ◌≢◌, ℕ, ◌<◌, ◌≤◌, ◌↔◌, ◌⊎◌, inl, inr, false, List, [], ◌∷◌, length, take, All, Result, Ok, Err, refl, sym, ap, ◌∙◌, arith, get_or, Fits, w8}
 use Rattle.std.specs.Prelude.{IfErr}
 use Rattle.std.proofs.lemmas.Bool.{cases_Bool, cases_lt}
@@ -39,24 +39,25 @@ Reported (Message m) result buffer = (result ≡ Ok (length m)) × (take (length
 Reported (Broken count) result buffer = (error : DecodeError) × (result ≡ Err error)
 Reported TooLong result buffer = (error : DecodeError) × (result ≡ Err error)
 
--- a call that reports an outcome returns the message m exactly if the outcome is `Message m`
+-- a call that reports an outcome returns the message m if and only if the outcome is `Message m`
 reported : (outcome : Outcome) (result : Result ℕ DecodeError) (buffer m : List ℕ) → Reported outcome result buffer
     → ReturnsMessage result buffer m ↔ (outcome ≡ Message m)
 reported (Message k) result buffer m h = grind arith
 reported (Broken count) result buffer m h = grind arith
 reported TooLong result buffer m h = grind arith
 
--- a call that reports the outcome of the piece f in n bytes returns m exactly if f is a frame of m that fits n bytes
+-- a call that reports the outcome of the piece f in n bytes returns m if and only if f is a frame of m that fits n
+-- bytes
 returns-reads : (f m : List ℕ) (n : ℕ) (result : Result ℕ DecodeError) (buffer : List ℕ) → IsPiece f → All (λ b. b < 256) f
     → Reported (outcome_of f n) result buffer → ReturnsMessage result buffer m ↔ (Reads f m × (length m ≤ n))
 returns-reads f m n result buffer piece below h =
-    -- `r`: the call returns m exactly if the outcome is `Message m`; `o`: this is so exactly if f is a frame of m that
-    -- fits
+    -- `r`: the call returns m if and only if the outcome is `Message m`; `o`: this is so if and only if f is a frame of
+    -- m that fits
     let r = reported (outcome_of f n) result buffer m h in
     let o = outcome_message f m n piece below in
     grind arith
 
--- the report of a result, which also has the number of parsed bytes, returns m exactly if the result does
+-- the report of a result, which also has the number of parsed bytes, returns m if and only if the result does
 reports : (parsed : ℕ) (result : Result ℕ DecodeError) (buffer m : List ℕ) (P : Type 0) → ReturnsMessage result buffer m ↔ P → ReportsMessage (report_result parsed result) buffer m ↔ P
 reports parsed result buffer m P h = grind arith
 
@@ -79,12 +80,12 @@ decode-reported f buffer buffer' TooLong e is = (TargetBufTooSmall, refl)
 -- the clauses of `decode` follow from its result and its buffer
 module _ (f old : List ℕ) (result : Result DecodeReport DecodeError) (new : List ℕ) (returned : result ≡ result_of_decode f (length old))
     (after : new ≡ overwritten old (first_output f)) (below : All (λ b. b < 256) f) where
-  -- for a piece f, the report returns m exactly if f is a frame of m that fits the buffer
+  -- for a piece f, the report returns m if and only if f is a frame of m that fits the buffer
   decode_reported : IsPiece f → (m : List ℕ) → ReportsMessage result new m ↔ (Reads f m × (length m ≤ length old))
   decode_reported piece m =
       let written : new ≡ overwritten old (output f) = rw (first_piece_alone f piece.0 piece.1) at after in
-      -- the result is the report of the outcome of f (`result_of_decode_alone`), so it returns m exactly if the
-      -- outcome's result does (`reports`), and so exactly if f is a frame of m that fits (`returns-reads`)
+      -- the result is the report of the outcome of f (`result_of_decode_alone`), so it returns m if and only if the
+      -- outcome's result does (`reports`), and so if and only if f is a frame of m that fits (`returns-reads`)
       rw (returned, result_of_decode_alone f (length old) piece)
       (reports (len_through_piece f f) (outcome_result (outcome_of f _)) new m _
       (returns-reads f m _ (outcome_result (outcome_of f _)) new piece below (decode-reported f old new _ refl written)))
@@ -130,7 +131,7 @@ source-reported f buffer buffer' TooLong e some is = within-rejected f (length b
 -- the clauses of `decode_with_sentinel` follow from its result and its buffer
 module _ (f old : List ℕ) (result : Result ℕ DecodeError) (new : List ℕ) (returned : result ≡ result_of_sentinel_decode f (length old))
     (after : new ≡ overwritten old (kept_output (head f))) (below : All (λ b. b < 256) f) where
-  -- for a piece f, the result returns m exactly if f is a frame of m that fits the buffer
+  -- for a piece f, the result returns m if and only if f is a frame of m that fits the buffer
   source_reported : IsPiece f → (m : List ℕ) → ReturnsMessage result new m ↔ (Reads f m × (length m ≤ length old))
   source_reported piece m =
       let written : new ≡ overwritten old (kept_output f) = rw (head_alone f piece.1) at after in
@@ -162,7 +163,7 @@ in_place-room (byte ∷ bytes) result is = grind arith
 -- the clauses of `decode_in_place_report` follow from its report and its buffer
 module _ (f : List ℕ) (result : Result DecodeReport DecodeError) (new : List ℕ) (returned : result ≡ in_place_report f) (after : new ≡ in_place f)
     (below : All (λ b. b < 256) f) where
-  -- for a piece f, the report returns m exactly if f is a frame of m that fits the buffer
+  -- for a piece f, the report returns m if and only if f is a frame of m that fits the buffer
   in_place_reported : IsPiece f → (m : List ℕ) → ReportsMessage result new m ↔ (Reads f m × (length m ≤ length f))
   in_place_reported piece m =
       -- the report has the result of decoding in place, which is that of `decode_with_sentinel` for a buffer of the

@@ -67,7 +67,7 @@ module _ (code : ℕ) (bytes : List ℕ) (x : ℕ) (p : List ℕ) (is : IsBlock 
   last-same : last_part (code ∷ (bytes ++ x ∷ p)) ≡ last_part (x ∷ p)
   last-same = grind (arith, last_part-more, drop_at, length-append)
 
-  -- they are whole exactly if the bytes after the block are whole
+  -- they are whole if and only if the bytes after the block are whole
   whole-same : is_whole (code ∷ (bytes ++ x ∷ p)) ≡ is_whole (x ∷ p)
   whole-same = grind (arith, is_whole-of, last-same)
 
@@ -75,7 +75,7 @@ module _ (code : ℕ) (bytes : List ℕ) (x : ℕ) (p : List ℕ) (is : IsBlock 
   out-behind : output (code ∷ (bytes ++ x ∷ p)) ≡ (bytes ++ joint (code ∷ bytes)) ++ output (x ∷ p)
   out-behind = grind (arith, output-more, take_at, drop_at, length-append)
 
--- a block and the bytes p after it are whole exactly if p is whole
+-- a block and the bytes p after it are whole if and only if p is whole
 pub front-whole : (block p : List ℕ) → IsBlock block → p ≢ [] → is_whole (block ++ p) ≡ is_whole p
 front-whole [] p is some = absurd is
 front-whole (code ∷ bytes) [] is some = grind arith

@@ -1,8 +1,8 @@
 -- The outcome of a piece follows from its output's length and from whether the piece is whole (`outcome_of_whole` and
 -- the lemmas after it). Conversely, the outcome says both facts about the piece (`outcome_says`). So it is `Message m`
--- exactly if the piece is a frame of m that fits (`outcome_message`). Then the file is about the bytes of a list before
--- its first zero, which std's `take_while` also gives (`head-is`). If the list begins with a nonzero byte, these bytes
--- are its first piece (`first_piece_head`).
+-- if and only if the piece is a frame of m that fits (`outcome_message`). Then the file is about the bytes of a list
+-- before its first zero, which std's `take_while` also gives (`head-is`). If the list begins with a nonzero byte, these
+-- bytes are its first piece (`first_piece_head`).
 use Rattle.std.proofs.Common.{◌≡◌, ◌≢◌, ℕ, ◌<◌, ◌≤◌, ◌↔◌, List, [], ◌∷◌, ◌++◌, length, All, Some, refl, ap, arith, length-append, length-drop, length-take, false, not, ◌==◌, inl, inr}
 use Rattle.std.specs.List.{position_or_len, take_while}
 use Rattle.std.proofs.lemmas.Bool.{cases_eq, ne_eqb, eq-eqb, leb-true, leb-false}
@@ -24,7 +24,7 @@ use Rattle.cobs.proofs.format.FrameLemmas.{frame_some, frame_nonzero, frame_whol
 pub reads_only : (f m : List ℕ) → Reads f m → (f ≢ []) × HasNoZero f × IsWhole f × (m ≡ output f)
 reads_only f m r = (frame_some f m r, frame_nonzero f m r, frame_whole f m r, frame_output f m r)
 
--- if all numbers of a list are below 256, the list is a frame of m exactly if these four facts hold
+-- if all numbers of a list are below 256, the list is a frame of m if and only if these four facts hold
 pub reads_iff : (f m : List ℕ) → All (λ b. b < 256) f → Reads f m ↔ ((f ≢ []) × HasNoZero f × IsWhole f × (m ≡ output f))
 reads_iff f m below = (
   λ r. reads_only f m r,
@@ -79,7 +79,7 @@ outcome_of_some_missing p n some fits broken = grind (arith, is_whole-of, ne_eqb
 pub outcome_frame : (f m : List ℕ) (n : ℕ) → Reads f m → length m ≤ n → outcome_of f n ≡ Message m
 outcome_frame f m n r fits = let is = frame_output f m r in rw is (outcome_of_whole f n (omega (arith, ap length is)) (frame_whole f m r))
 
--- the outcome of a piece is the message m exactly if the piece is a frame of m that fits n bytes
+-- the outcome of a piece is the message m if and only if the piece is a frame of m that fits n bytes
 pub outcome_message : (f m : List ℕ) (n : ℕ) → IsPiece f → All (λ b. b < 256) f → (outcome_of f n ≡ Message m) ↔ (Reads f m × (length m ≤ n))
 outcome_message f m n (some, nonzero) below = (
   λ e.
@@ -136,14 +136,14 @@ pub first_piece_head : (byte : ℕ) (bytes : List ℕ) → byte ≢ 0 → first_
 unfolding first_piece head
 first_piece_head byte bytes some = grind (arith, ne_eqb, head-cons)
 
--- in a buffer of the list's length, the bytes before the first zero have the outcome `Message m` exactly if they are a
--- frame of m
+-- in a buffer of the list's length, the bytes before the first zero have the outcome `Message m` if and only if they
+-- are a frame of m
 pub head_reads : (byte : ℕ) (bytes m : List ℕ) → byte ≢ 0 → All (λ b. b < 256) (byte ∷ bytes) → (outcome_of (head (byte ∷ bytes)) (length (byte ∷ bytes)) ≡ Message m) ↔ Reads (head (byte ∷ bytes)) m
 head_reads byte bytes m some below =
     let t = byte ∷ bytes in
     let piece : IsPiece (head t) = grind (arith, head-cons, head_nonzero) in
-    -- `both`: the outcome is `Message m` exactly if these bytes are a frame of m that fits, and each message of such a
-    -- frame fits
+    -- `both`: the outcome is `Message m` if and only if these bytes are a frame of m that fits, and each message of
+    -- such a frame fits
     let both = outcome_message (head t) m (length t) piece (head_all (λ b. b < 256) t below) in
     grind (arith, frame_output, output_within, length-head)
 

@@ -54,7 +54,7 @@ pub last_part-last : (code : ℕ) (bytes : List ℕ) → length bytes ≤ code -
 unfolding last_part parts parts_after
 last_part-last code bytes short = grind (arith, parts_after-past, take_all)
 
--- a piece that isn't empty is whole exactly if no byte of its last part is missing
+-- a piece that isn't empty is whole if and only if no byte of its last part is missing
 pub is_whole-of : (p : List ℕ) → 0 < length p → is_whole p ≡ eqb (missing (last_part p)) 0
 unfolding is_whole
 is_whole-of p h = grind arith

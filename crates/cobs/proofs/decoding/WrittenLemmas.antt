@@ -47,7 +47,7 @@ kept-joined : (code : ℕ) (bytes next : List ℕ) → IsBlock (code ∷ bytes) 
 kept-joined code bytes [] is = grind (arith, append-nil, all-kept, block-whole, output-last, kept_output-empty)
 kept-joined code bytes (byte ∷ next) is = front-kept (code ∷ bytes) (byte ∷ next) is (λ e. cc) ∙ append_assoc bytes (joint (code ∷ bytes)) (kept_output (byte ∷ next))
 
--- a block and the bytes `next` after it are whole exactly if `next` is whole or empty
+-- a block and the bytes `next` after it are whole if and only if `next` is whole or empty
 whole-joined : (block next : List ℕ) → IsBlock block → whole_left (block ++ next) ≡ whole_left next
 whole-joined [] next is = absurd is
 whole-joined (code ∷ bytes) [] is = grind (arith, append-nil, block-whole)
@@ -109,7 +109,7 @@ module _ {h old buffer : List ℕ} {written : ℕ} {left : List ℕ} (s : Writte
 
 -- THE BYTES THAT ARE STILL TO BE DECODED
 
--- the bytes p of the piece h are still to be decoded; h is whole or empty exactly if p is
+-- the bytes p of the piece h are still to be decoded; h is whole or empty if and only if p is
 pub record Left (h old buffer : List ℕ) (written : ℕ) (p : List ℕ) : Type 0 where
   pub nonzero : HasNoZero p
   pub below : All (λ byte. byte < 256) p

@@ -66,7 +66,7 @@ module _ {slice m : List ℕ} {r : Reached} (h : CobsEncoderAfter slice r m) whe
   parts : All IsBlock o.front × IsBlock (r.block.code ∷ o.bytes)
   parts = blocks-of o
 
-  -- `r.full` is true exactly if the frame ends in a full block (`ends_in_full`)
+  -- `r.full` is true if and only if the frame ends in a full block (`ends_in_full`)
   noted-is : r.full ≡ ends_in_full o.front o.bytes
   noted-is = h.noted ∙ (frame-is h.encoded o).0
 

@@ -168,8 +168,32 @@ module _ {s : Start} {slice : List ℕ} {read len index next zeros d : ℕ} (m :
         -- `joined`: the j bytes join the open block; `closed`: the zero closes it
         let joined = Reaches-join m.reaches {Q = λ _. Unit {0}} m.room j (omega arith) (omega arith) nonzero here (λ full z p. tt) (λ z. tt) in
         let closed = Reaches-zero joined {Q = λ full. 0 < k + 1 → full ≡ false} m.room (omega arith) zero_at (omega arith) (λ lt. refl) in
+        -- `here'`: after the zero, the slice has the window's other bytes, because the code is written before them
         let long = length-set slice index (next + k - index) in
-        grind (arith, drop-set-lt, mask_behind-and, small)
+        let here' : take (len - (k + 1)) (drop (next + (k + 1)) (set slice index (next + k - index)))
+        ≡ take (len - (k + 1)) (drop (read + (k + 1)) s.source) =
+        ap (take _) (drop-set-lt (next + (k + 1)) slice index _ (omega arith)) ∙ sym (cut slice next)
+        ∙ ap (drop (j + 1)) m.here ∙ cut s.source read in
+        -- `bits`: without its lowest bit, the mask says which of these bytes are zeros
+        let bits : without_lowest zeros ≡ mask_behind (k + 1) (take (len - (k + 1)) (drop (read + (k + 1)) s.source)) =
+        ap without_lowest m.bits ∙ mask_behind-and d left small some_bits
+        ∙ ap (λ n. mask_behind n (drop (j + 1) left)) (omega arith)
+        ∙ ap (mask_behind (k + 1)) (cut s.source read) in
+        -- the first k + 1 bytes of the window are encoded, and `IsMasked` counts them from the place of the next code
+        let count : next + k + 1 - next ≡ k + 1 = omega arith in
+        let place : next + d + j ≡ next + k = omega arith in
+        rw count (record {
+          seen = omega arith;
+          some = m.some;
+          few = m.few;
+          inside = m.inside;
+          fits = m.fits;
+          room = omega arith;
+          here = here';
+          bits = bits;
+          short = omega arith;
+          reaches = Reaches-at (ap (λ n. set slice index (n - index)) place) (omega arith) place (omega arith) (λ full p. p) closed;
+        })
 
   -- the place of the next code is no later than the next zero
   pub masked-ordered : index ≤ next + lowest zeros
@@ -248,7 +272,13 @@ row-taken {s} {slice} {after} {read} {index} {next} r short fits n some inside z
     -- `row`: the slice has the n ones from `next` on, as `Reaches-ones` needs
     let row = ap (λ l. take n (drop next l)) is ∙ mid-three coded _ next n ones (omega arith) in
     let taken = Reaches-ones m first (omega arith) long zero.1 (grind arith) in
-    record { ordered = omega arith; open' = omega arith; room = long; reaches = grind arith }
+    -- `taken` has read + 1 + m in place of read + n, and `Reaches-at` replaces such numbers
+    record {
+      ordered = omega arith;
+      open' = omega arith;
+      room = long;
+      reaches = Reaches-at refl (omega arith) (omega arith) (omega arith) (λ full p. p) taken;
+    }
 
 -- the first k bytes, which aren't zeros and are copied as one slice, join the open block
 pub slice-joined : {s : Start} {slice part : List ℕ} {index next k n m : ℕ} {P : Bool → Type 0} → Reaches s slice 0 index next P

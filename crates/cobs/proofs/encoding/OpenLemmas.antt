@@ -61,7 +61,7 @@ module _ {m f : List ℕ} {index code : ℕ} (o : IsOpenFrame f m index code) wh
   closed_frame-is_frame false noted = frame_push o.front _ blocks-of.0 blocks-of.1
   closed_frame-is_frame true noted = grind (arith, append-nil, blocks-of)
 
-  -- the last of these blocks is full exactly if `full` says so
+  -- the last of these blocks is full if and only if `full` says so
   pub closed_blocks-full : (full : Bool) → ends_in_full o.front o.bytes ≡ full → is_full (last_of (closed_blocks full)) ≡ full
   closed_blocks-full false noted = grind (arith, last_of-push)
   closed_blocks-full true noted = grind arith

@@ -105,6 +105,10 @@ front-filled {source} {old} {slice} {r} {r'} {pos} {index} fits full s one is =
       | inr none ↦ front-full fits (Reaches-at refl refl refl full (λ full p. p) s) (omega arith) (rw (full, one) at is)
     ]
 
+-- a step that takes no byte changes nothing
+pub front-none : {source slice : List ℕ} {r : Reached} → IsPlaceIn (length slice) r → TakesFront slice r source 0 slice r
+front-none place = record { place = place; after = λ m h. rw append-nil h; end = refl; rest = refl }
+
 -- a step, and then another step on the rest of the source
 module _ {slice slice' source left : List ℕ} {r r' : Reached} (n : ℕ) (is : left ≡ drop n source) (a : TakesFront slice r source n slice' r') where
   -- the end of the frame, counted after the first step, is the same as before it

@@ -68,7 +68,7 @@ broken_piece : (parts (2 ∷ 5 ∷ 3 ∷ 1 ∷ []) ≡ (2 ∷ 5 ∷ []) ∷ (3 �
 unfolding parts parts_after output kept_output is_whole last_part
 broken_piece = grind arith
 
--- the outcome of a broken piece is no message; the outcome of a whole piece is a message exactly if there is room
+-- the outcome of a broken piece is no message; the outcome of a whole piece is a message if and only if there is room
 outcomes : (map (outcome_of (2 ∷ 5 ∷ 3 ∷ 1 ∷ [])) (3 ∷ 2 ∷ []) ≡ Broken 3 ∷ TooLong ∷ []) × (map (outcome_of (2 ∷ 12 ∷ [])) (1 ∷ 0 ∷ []) ≡ Message (12 ∷ []) ∷ TooLong ∷ [])
 unfolding parts parts_after output is_whole last_part outcome_of
 outcomes = (refl, refl)

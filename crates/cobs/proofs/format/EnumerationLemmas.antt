@@ -1,7 +1,8 @@
 -- The frames of a message (`all_frames`): its encoded frame and, if the message ends in a full run, that frame followed
 -- by the lone block. Each message has an encoded frame (`encoded_frame`), because an encoder reaches an open frame of
 -- the message (`after_all`). Every other frame of the message has the same blocks, and then the lone block
--- (`same_blocks`). An encoded frame ends in a full block exactly if its message ends in a full run (`ends_in_full`).
+-- (`same_blocks`). An encoded frame ends in a full block if and only if its message ends in a full run
+-- (`ends_in_full`).
 use Rattle.std.proofs.Common.{◌≡◌, ◌≢◌, ℕ, zero, suc, ◌+◌, ◌%◌, ◌<◌, ◌↔◌, List, [], ◌∷◌, ◌++◌, length, map, refl, ap, ◌∙◌, arith, append-nil, append_assoc, length-append, inl, inr, ⊎_elim}
 use Rattle.std.proofs.lemmas.List.Folds.{concat-append}
 use Rattle.std.proofs.lemmas.List.{length_push}
@@ -26,7 +27,7 @@ stretches-zero [] = refl
 stretches-zero (zero ∷ m) = grind (arith, stretches-zero m)
 stretches-zero (suc b ∷ m) = grind (arith, some_stretch, stretches-zero m)
 
--- The lists `parts` are the stretches of a message. One more empty stretch adds a full block exactly if the last
+-- The lists `parts` are the stretches of a message. One more empty stretch adds a full block if and only if the last
 -- stretch has a positive length that is divisible by 254.
 runs-zero : (parts : List (List ℕ)) → parts ≢ [] → (full_blocks (map length (parts ++ [] ∷ [])) ≡ full_blocks (map length parts) + 1)
     ↔ ((0 < last_number (map length parts)) × (last_number (map length parts) % 254 ≡ 0))
@@ -34,11 +35,11 @@ runs-zero [] some = absurd (some refl)
 runs-zero (p ∷ []) some = grind arith
 runs-zero (p ∷ q ∷ ps) some = grind (arith, runs-zero (q ∷ ps))
 
--- a zero after a message lengthens its frame by two bytes exactly if the message ends in a full run
+-- a zero after a message lengthens its frame by two bytes if and only if the message ends in a full run
 full_run-len : (m : List ℕ) → EndsInFullRun m ↔ (encoded_len (m ++ 0 ∷ []) ≡ encoded_len m + 2)
 full_run-len m = grind (arith, stretches-zero, runs-zero, length-append)
 
--- an encoded frame ends in a full block exactly if its message ends in a full run
+-- an encoded frame ends in a full block if and only if its message ends in a full run
 pub ends_in_full : (g m : List ℕ) (e : IsEncodedFrame g m) → IsFull (last_of e.reads.blocks) ↔ EndsInFullRun m
 ends_in_full g m e =
     let r = e.reads in

@@ -1,5 +1,5 @@
 -- A frame can be cut into blocks in only one way (`one_frame`, by `parts-frame`), so it has only one message
--- (`one_message`). A block with more bytes after it is a frame exactly if these bytes are a frame (`front-frame`);
+-- (`one_message`). A block with more bytes after it is a frame if and only if these bytes are a frame (`front-frame`);
 -- `front-canonical` says when the block and the bytes are a canonical frame. The lemmas before these put a block before
 -- a frame, or describe the last block of a canonical frame (`shorter_end`).
 use Rattle.std.proofs.Common.{true, ◌≡◌, ◌≢◌, ◌↔◌, ℕ, ◌+◌, ◌<◌, List, [], ◌∷◌, ◌++◌, length, All, refl, sym, ap, ◌∙◌, subst, arith, append-nil, length-append, length-take}
@@ -136,7 +136,7 @@ module _ (block f : List ℕ) (is : IsBlock block) where
       let whole : f ≡ concat (parts f) = grind (arith, append_cancel_left) in
       record { some = λ e. some (whole ∙ ap concat e); each = All-tail IsBlock block (parts f) g.each; whole = whole }
 
-  -- if f isn't empty, the block and the bytes f are a frame exactly if f is a frame
+  -- if f isn't empty, the block and the bytes f are a frame if and only if f is a frame
   pub front-frame : f ≢ [] → IsFrame (block ++ f) ↔ IsFrame f
   front-frame some = (
     -- if the block and f are a frame, f is a frame of its parts
@@ -145,8 +145,8 @@ module _ (block f : List ℕ) (is : IsBlock block) where
     λ frame. (_, Reads-cons block f frame.0 is frame.1),
   )
 
-  -- if f isn't empty, the block and the bytes f are a canonical frame exactly if two conditions hold: f is a canonical
-  -- frame, and f isn't the lone block if the block is full
+  -- if f isn't empty, the block and the bytes f are a canonical frame if and only if two conditions hold: f is a
+  -- canonical frame, and f isn't the lone block if the block is full
   pub front-canonical : f ≢ [] → IsCanonical (block ++ f) ↔ (IsCanonical f × (IsFull block → f ≢ lone_block))
   front-canonical some = (
     λ c. (

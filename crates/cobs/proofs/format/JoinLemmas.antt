@@ -1,5 +1,5 @@
--- Two frames end to end are a frame (`Reads-append`). A front of a frame, if it has at least one byte, is a frame
--- exactly if it ends at the end of a block (`front_frame`), and its message is then a front of the frame's message
+-- Two frames end to end are a frame (`Reads-append`). A front of a frame, if it has at least one byte, is a frame if
+-- and only if it ends at the end of a block (`front_frame`), and its message is then a front of the frame's message
 -- (`front_message`). The proofs use that the parts of a frame are its blocks (`parts-frame`), and that the message of
 -- two lists of blocks is known (`message_of-append`).
 use Rattle.std.proofs.Common.{◌≡◌, ◌≢◌, ℕ, ◌↔◌, List, [], ◌∷◌, ◌++◌, refl, ap, ◌∙◌, length, arith, append-nil, length-append, append_assoc}
@@ -45,7 +45,7 @@ message_of-front : (first rest : List (List ℕ)) → first ≢ [] → (more : L
 message_of-front first [] some = grind (arith, append-nil)
 message_of-front first (b ∷ rest) some = (_, message_of-append first (b ∷ rest) some (λ e. cc) ∙ append_assoc (message_of first) _ (message_of (b ∷ rest)))
 
--- if a front p of a frame isn't empty, p is a frame exactly if it ends at the end of a block
+-- if a front p of a frame isn't empty, p is a frame if and only if it ends at the end of a block
 pub front_frame : (p q m : List ℕ) (r : Reads (p ++ q) m) → p ≢ [] → IsFrame p ↔ EndsAtBlock p r.blocks
 front_frame p q m r some = (
   -- if p is a frame, its blocks are the first blocks of the whole frame

@@ -144,11 +144,11 @@ nonempty-push : (p : List ℕ) (b : ℕ) → is_nonempty (p ++ b ∷ []) ≡ tru
 nonempty-push [] b = refl
 nonempty-push (c ∷ p) b = refl
 
--- after one more byte b, some bytes are unended exactly if b isn't a zero
+-- after one more byte b, some bytes are unended if and only if b isn't a zero
 pub nonempty-unended_push : (t : List ℕ) (b : ℕ) → not (eqb b 0) ≡ is_nonempty (unended (t ++ b ∷ []))
 nonempty-unended_push t b = grind (arith, unended-push, nonempty-push)
 
--- after p and some bytes, bytes are unended exactly if the last of these bytes isn't a zero
+-- after p and some bytes, bytes are unended if and only if the last of these bytes isn't a zero
 pub nonempty-unended_last : (p bytes : List ℕ) → 0 < length bytes → not (eqb (get_or bytes (length bytes - 1) 0) 0) ≡ is_nonempty (unended (p ++ bytes))
 nonempty-unended_last p bytes h =
     -- all bytes but the last one, and the last one

@@ -5,8 +5,8 @@ use Rattle.std.proofs.Common.{◌≡◌, ◌≢◌, ℕ, ◌+◌, ◌<◌, ◌�
 use Rattle.std.proofs.lemmas.Bool.{cases_eq, eq-eqb, ne_eqb}
 use Rattle.std.proofs.lemmas.List.{append-nil, take_more}
 use Rattle.cobs.specs.Feed.{Phase, PhaseAfter, DecoderAfter, Feeds}
-use Rattle.cobs.specs.FeedPiece.{IsWithin, TakesBytes, TakesPiece, end_reported, outcome_at}
-use Rattle.cobs.specs.Stream.{unended, stream_outcomes}
+use Rattle.cobs.specs.FeedPiece.{AreAlikeAtFirst, IsWithin, TakesBytes, TakesPiece, end_reported, outcome_at}
+use Rattle.cobs.specs.Stream.{Outcome, unended, stream_outcomes}
 use Rattle.cobs.specs.Push.{last_piece}
 use Rattle.cobs.specs.Overwritten.{overwritten}
 use Rattle.cobs.specs.Piece.{output}
@@ -24,6 +24,10 @@ use Rattle.cobs_bytes.proofs.bytes.ListLemmas.{drop-later}
 stated-some : (result : Result (Option ℕ) DecodeError) (buffer : List ℕ) (end : PieceEnd) → end_reported result ≡ Some end → IfOk result (λ found. IfSome found (λ n. n ≤ length buffer))
     → (outcome_reported result buffer ≡ outcome_at end buffer ∷ []) × IsWithin (length buffer) end
 stated-some result buffer end e bound = grind arith
+
+-- if a list of outcomes is alike to the empty list, it is empty
+nil_alike : (xs : List Outcome) → AreAlikeAtFirst [] xs → xs ≡ []
+nil_alike xs h = grind arith
 
 -- THE BYTES SO FAR
 
@@ -51,7 +55,7 @@ module _ {buffer₀ buffer buffer' : List ℕ} {phase₀ phase phase' : Phase} {
   module _ (p : List ℕ) (h : PhaseAfter (length buffer₀) phase₀ p) where
     -- the stream has no outcome before the byte at index i
     pub none_before : stream_outcomes (p ++ take i bytes) (length buffer₀) ≡ []
-    none_before = grind arith
+    none_before = nil_alike _ (t.takes.alike p h)
 
     -- the stream with this byte
     stream_on : p ++ take (i + 1) bytes ≡ (p ++ take i bytes) ++ get_or bytes i 0 ∷ []
@@ -131,7 +135,7 @@ module _ {buffer₀ buffer buffer' : List ℕ} {phase₀ phase phase' : Phase} {
         };
         holds = holds_behind;
         untouched = untouched_behind;
-        bound = grind (arith, count-within);
+        bound = λ p h. count-within end buffer' _ _ (takes.alike p h) fits;
         idle = f.zero_idle z;
-        within = grind arith;
+        within = (omega arith, fits);
       }

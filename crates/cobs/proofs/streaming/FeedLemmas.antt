@@ -43,8 +43,8 @@ next_phase-zero n phase = grind arith
 next_buffer-zero : (buffer : List ℕ) (phase : Phase) → next_buffer buffer phase 0 ≡ buffer
 next_buffer-zero buffer phase = grind arith
 
--- `grows` in the form of `phase_after`: the phase is `Overlong` exactly if the output, with one more byte, is longer
--- than the buffer
+-- `grows` in the form of `phase_after`: the phase is `Overlong` if and only if the output, with one more byte, is
+-- longer than the buffer
 grows-is : (n : ℕ) (full : Bool) (left count : ℕ) → grows n full left count ≡ cond (leb (count + 1) n) (Within full left (count + 1)) Overlong
 grows-is n full left count = rw add-one refl
 

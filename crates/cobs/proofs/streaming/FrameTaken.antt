@@ -1,7 +1,7 @@
 -- A streaming decoder that is fed a frame of m and a zero returns m; and if it returns a message, the bytes before the
 -- zero are a frame of this message. The lemmas `fed-reads` and `fed-only` say this of `feed` of the zero, and
 -- `taken-reads` and `taken-only` of `feed_piece`. By `outcome_frame` and `outcome_message`: the outcome of a piece is
--- the message m exactly if the piece is a frame of m, and m fits the buffer.
+-- the message m if and only if the piece is a frame of m, and m fits the buffer.
 use Rattle.std.proofs.Common.{◌≡◌, ◌≢◌, ℕ, ◌+◌, ◌<◌, ◌≤◌, List, [], ◌∷◌, ◌++◌, length, take, All, Option, Some, None, Result, Ok, refl, sym, ap, ◌∙◌, arith, length-append, length-take-le, take_all, take_at}
 use Rattle.std.proofs.lemmas.List.{take-take}
 use Rattle.cobs.specs.Grammar.{Reads}

@@ -1,8 +1,8 @@
--- A push of f and a zero to an idle decoder reports the message m exactly if f is a frame of m, and m fits the buffer
--- (`push_reads`). The clauses `reads` and `only` of the decoders' `push` follow from it (`push_message`, `push_only`).
--- By the fields of `PushesBytes`: `outcomes` says that a report stands for the outcome of f (`stated`), and
--- `push_returns` says that no byte of f returns an error if the output of f fits (`pushed`). By `outcome_message`, the
--- outcome of f is m exactly if f is a frame of m.
+-- A push of f and a zero to an idle decoder reports the message m if and only if f is a frame of m, and m fits the
+-- buffer (`push_reads`). The clauses `reads` and `only` of the decoders' `push` follow from it (`push_message`,
+-- `push_only`). By the fields of `PushesBytes`: `outcomes` says that a report stands for the outcome of f (`stated`),
+-- and `push_returns` says that no byte of f returns an error if the output of f fits (`pushed`). By `outcome_message`,
+-- the outcome of f is m if and only if f is a frame of m.
 use Rattle.std.proofs.Common.{◌≡◌, ◌≢◌, ℕ, ◌+◌, ◌<◌, ◌≤◌, Fits, get_or, w8, ◌↔◌, List, [], ◌∷◌, ◌++◌, length, take, All, Option, Some, None, Result, Ok, Err, sym, ap, ◌∙◌, arith, length-append, length-take-le, take-append-drop, drop, inl, inr, ◌-◌}
 use Rattle.std.proofs.lemmas.Bool.{cases_lt, eq-eqb, le-leb}
 use Rattle.std.proofs.lemmas.List.{take-append-le, take_more, get_or_append_left}
@@ -101,10 +101,10 @@ module _ (buffer bytes buffer' f m : List ℕ) (phase phase' : Phase) (idle : ph
 
 -- a push of some bytes, with this result
 module _ {buffer bytes buffer' : List ℕ} {phase phase' : Phase} {result : Result (Option DecodeReport) PushError} (w : PushesBytes buffer phase bytes result buffer' phase') where
-  -- if the bytes are f and a zero, the push reports m exactly if f is a frame of m, and m fits
+  -- if the bytes are f and a zero, the push reports m if and only if f is a frame of m, and m fits
   pub push_reads : All (λ b. b < 256) bytes → (f m : List ℕ) → phase ≡ Idle → bytes ≡ f ++ 0 ∷ [] → IsPiece f → PushesMessage result buffer' m ↔ (Reads f m × (length m ≤ length buffer))
   push_reads below f m idle is piece =
-      -- the push reports m exactly if the outcome of f is m (`says`, `reports`), that is, if f is a frame of m that
+      -- the push reports m if and only if the outcome of f is m (`says`, `reports`), that is, if f is a frame of m that
       -- fits (`both`)
       let both = outcome_message f m (length buffer) piece (All-apart (λ b. b < 256) f (0 ∷ []) (rw is at below)).0 in
       let says = stated buffer bytes buffer' f m phase phase' idle is piece result w in

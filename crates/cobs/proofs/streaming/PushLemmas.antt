@@ -10,7 +10,7 @@ use Rattle.cobs.specs.Stream.{unended}
 use Rattle.cobs.specs.Feed.{DecoderAfter, Feeds, Idle, Phase, PhaseAfter, result_for}
 use Rattle.cobs.specs.FeedPiece.{TakesPiece, end_reported}
 use Rattle.cobs.specs.Internal.FeedsQuietly.{FeedsQuietly}
-use Rattle.cobs.specs.Push.{FeedsInTurn, PushesBytes, consumed, consumed_size, last_result, pushed_outcomes}
+use Rattle.cobs.specs.Push.{error_outcomes, FeedsInTurn, PushesBytes, consumed, consumed_size, last_result, pushed_outcomes}
 use Rattle.cobs.specs.Fields.Report.{frame_size_of}
 use Rattle.cobs.specs.declared.error.DecodeError.{DecodeError}
 use Rattle.cobs.proofs.streaming.ByByteLemmas.{piece-nothing, piece-more, takes_behind, holds_behind, untouched_behind}
@@ -82,7 +82,7 @@ module _ {buffer₀ buffer buffer' : List ℕ} {phase₀ phase phase' : Phase} {
   pub Pushed-more : result ≡ Ok None → Pushed buffer₀ phase₀ buffer' phase' bytes (i + 1)
   Pushed-more e = record {
     piece = piece-more bytes i within s.piece f (λ _. ap end_reported e);
-    quiet = grind (arith, below_more, result_here);
+    quiet = λ p h. below_more (λ place. result_at p bytes (length buffer₀) place ≡ Ok None) i (s.quiet p h) (result_here p h ∙ e);
     zero_idle = zero_behind;
     feeds = rw e at feeds_behind;
   }
@@ -115,16 +115,31 @@ module _ {buffer₀ buffer buffer' : List ℕ} {phase₀ phase phase' : Phase} {
   pub pushed_some : (n : ℕ) → result ≡ Ok (Some n) → PushesBytes buffer₀ phase₀ bytes (Ok (Some (record { parsed_size = i + 1; frame_size = n }))) buffer' phase'
   -- this byte is a zero (`message_at_zero`), so it reports the outcome that the report stands for
   pushed_some n e = ended (Ok (Some (record { parsed_size = i + 1; frame_size = n }))) refl (sym e)
-      (λ p h. rw (e, eq-eqb _ 0 (message_at_zero _ _ _ n (result_here p h.phased ∙ e))) refl) (grind arith)
+      (λ p h. rw (e, eq-eqb _ 0 (message_at_zero _ _ _ n (result_here p h.phased ∙ e))) refl) (rw s.piece.takes.len at (rw e at f.bound))
 
   -- if this byte returns an error, the push returns this error
   pub pushed_error : (e : DecodeError) → result ≡ Err e → PushesBytes buffer₀ phase₀ bytes (Err (record { error = e; parsed_size = i + 1 })) buffer' phase'
+  -- the last byte that the error counts, at index i + 1 - 1, is this byte
   pushed_error e is = ended (Err (record { error = e; parsed_size = i + 1 })) refl (sym is)
-      (λ p h. grind arith) tt
+      (λ p h. rw is (ap (λ (k : ℕ). cond (eqb (get_or bytes k 0) 0) (error_outcomes e) []) (omega arith))) tt
 
 -- if no byte is left, the push returns `Ok(None)`
 pub pushed_none : {buffer₀ buffer : List ℕ} {phase₀ phase : Phase} (bytes : List ℕ) (i : ℕ) → i ≡ length bytes → Pushed buffer₀ phase₀ buffer phase bytes i → PushesBytes buffer₀ phase₀ bytes (Ok None) buffer phase
-pushed_none {buffer₀} {buffer} {phase₀} {phase} bytes i all s = grind arith
+-- the consumed bytes are all bytes, which are the first i bytes
+pushed_none bytes i all s = let end = rw all at s in record {
+  push_returns = λ p h place inside. grind (arith, end.quiet p h place inside);
+  phased = end.piece.takes.phased;
+  after = end.piece.takes.after;
+  holds = end.piece.holds;
+  untouched = end.piece.untouched;
+  outcomes = λ p h. sym (end.piece.takes.outcomes p h);
+  feeds = end.feeds;
+  some = λ other. absurd (other refl);
+  within = omega arith;
+  bound = tt;
+  zero_idle = end.zero_idle;
+  len = end.piece.takes.len;
+}
 
 -- if the next r bytes are fed quietly (`FeedsQuietly`), the push continues after them
 pub pushed_fed : {buffer₀ buffer buffer' : List ℕ} {phase₀ phase phase' : Phase} (bytes : List ℕ) (i r : ℕ) → i + r ≤ length bytes → Pushed buffer₀ phase₀ buffer phase bytes i

@@ -96,7 +96,7 @@ not_idle Idle = false
 not_idle (Within full left count) = true
 not_idle Overlong = true
 
--- in the phase after p, a piece has begun exactly if p isn't empty
+-- in the phase after p, a piece has begun if and only if p isn't empty
 nonempty_phase : (p : List ℕ) (n : ℕ) → is_nonempty p ≡ not_idle (phase_after p n)
 unfolding phase_after not_idle
 nonempty_phase p n = grind (arith, not_idle)
@@ -181,7 +181,7 @@ module _ {S : Type 0} {step : S → Read → S → Type 0} {from to : S} {reader
       → stream_outcomes (p ++ reader₀.kept ++ all_given g.reads) (length reader₀.buffer) ≡ []
   none_so_far g p b = grind arith
 
-  -- One more read is the last of the call. If the result is `Err(Io)` exactly if this read failed, and the facts of
+  -- One more read is the last of the call. If the result is `Err(Io)` if and only if this read failed, and the facts of
   -- `Reports` hold for the result, then `ReadsNext` holds.
   ReadsNext-read : {to' : S} {reader' : ReaderState} {result : Result Next ReadFault} (read : Read) → count < 65536
       → (g : Going step from to reader₀ reader unfinished count) → step to read to'

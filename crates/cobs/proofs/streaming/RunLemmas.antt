@@ -67,7 +67,8 @@ piece-all bytes buffer buffer' phase phase' f =
 -- this also holds for the first i + r bytes
 pub piece-over : {buffer₀ buffer : List ℕ} {phase₀ : Phase} (bytes : List ℕ) (i r : ℕ) → i + r ≤ length bytes → HasNoZero (take r (drop i bytes))
     → TakesPiece buffer₀ phase₀ (take i bytes) None buffer Overlong → TakesPiece buffer₀ phase₀ (take (i + r) bytes) None buffer Overlong
-piece-over bytes i zero within some t = grind arith
+piece-over {buffer₀} {buffer} {phase₀} bytes i zero within some t =
+    subst (λ (k : ℕ). TakesPiece buffer₀ phase₀ (take k bytes) None buffer Overlong) (omega arith) t
 piece-over {buffer₀} {buffer} {phase₀} bytes i (suc r) within some t =
     let rest = rw (from_here bytes i r (omega arith)) at some in
     -- the first of the r bytes isn't a zero, so the phase stays `Overlong`, and no piece ends

@@ -96,7 +96,19 @@ module _ {buffer buffer' : List ℕ} {phase phase' : Phase} {byte : ℕ} {result
 
   -- `TakesBytes` for this byte
   pub TakesBytes-byte : TakesBytes buffer phase (byte ∷ []) (reported_by byte result buffer') buffer' phase'
-  TakesBytes-byte = grind (arith, unended-push_piece, reported_byte, stream_outcomes-push_piece, alike_byte, Contains-push_cases, DecoderAfter-idle)
+  -- the unended bytes and the outcomes with this byte are those of a piece with one more byte (`unended-push_piece`,
+  -- `stream_outcomes-push_piece`); after a zero, the decoder has begun no piece (`DecoderAfter-idle`)
+  TakesBytes-byte = record {
+    len = f.len;
+    feeds = (result, buffer', phase', f, (refl, refl));
+    phased = λ p h. rw (unended-push_piece p byte h.piece) (f.phased p h);
+    after = λ p h. rw (unended-push_piece p byte h.phased.piece) (f.after p h);
+    outcomes = λ p h. reported_byte p h ∙ sym (stream_outcomes-push_piece p byte _ h.phased.piece);
+    alike = λ p h. rw (stream_outcomes-push_piece p byte _ h.piece) (alike_byte p h);
+    after_zero = λ p h z.
+        let is : byte ≡ 0 = elim (Contains-push_cases [] byte 0 z) [ inl none ↦ absurd (omega (arith, none.1)) | inr is ↦ is ] in
+        rw (unended-push_piece p byte h.piece, is) (DecoderAfter-idle buffer' phase' (f.zero_idle is));
+  }
 
 -- if the phase before the bytes `done` is the phase after the front p, the phase after these bytes is the phase after
 -- the unended bytes of p ++ done
@@ -186,4 +198,4 @@ module _ {buffer₀ buffer buffer' : List ℕ} {phase₀ phase phase' : Phase} {
         -- for them
         let nothing : stream_outcomes (p ++ _) n ≡ [] = left_nothing _ _ (sym whole ∙ none) in
         let nil : found ++ outcome_at end buffer' ∷ [] ≡ [] = alike-nil _ (rw nothing at (takes-piece.alike p h)) in
-        grind arith
+        absurd (omega (arith, ap length nil, length-append found (outcome_at end buffer' ∷ [])))

@@ -63,7 +63,7 @@ abbrev pub code_by : ℕ → ℕ
 code_by zero = 255
 code_by (suc joint) = 1
 
--- `joint` is 0 exactly if this code is 255
+-- `joint` is 0 if and only if this code is 255
 pub code_by-full : (joint : ℕ) → eqb joint 0 ≡ eqb (code_by joint) 255
 code_by-full zero = refl
 code_by-full (suc joint) = grind arith
@@ -154,7 +154,7 @@ row_fed n inner dest bytes new some few going none due room ones is =
     let fed = open_fed s inner.joint {ys = replicate n 0} {code = 1} {left = 0} (grind (arith, row_ones)) (grind arith) in
     grind (arith, length-replicate)
 
--- the number that `joint_after` returns for a code is 0 exactly if the code is 255
+-- the number that `joint_after` returns for a code is 0 if and only if the code is 255
 pub joint-is : (code joint : ℕ) → (code ≡ 255 → joint ≡ 0) → (code ≢ 255 → joint ≡ 1) → eqb joint 0 ≡ eqb code 255
 joint-is code joint full other = grind (arith, ne_eqb)
 

@@ -74,12 +74,12 @@ at_end : (c : ℕ) (q : List ℕ) → table_result (state_after (c ∷ q)) 0 ≡
 unfolding is_whole
 at_end c q = grind arith
 
--- for the zero after p, the table returns `DataComplete`, and the output of p is m, exactly if p is a frame of m
+-- for the zero after p, the table returns `DataComplete`, and the output of p is m, if and only if p is a frame of m
 complete : (p m : List ℕ) → HasNoZero p → All (λ b. b < 256) p → ((table_result (state_after p) 0 ≡ Ok DataComplete) × (output p ≡ m)) ↔ Reads p m
 complete [] m nonzero below = let both = reads_iff [] m below in grind arith
 complete (c ∷ q) m nonzero below = let both = reads_iff (c ∷ q) m below in grind (arith, at_end, cases_Bool)
 
--- `complete` for the state after p and the data so far: the zero after p completes the message m exactly if p is a
+-- `complete` for the state after p and the data so far: the zero after p completes the message m if and only if p is a
 -- frame of m
 pub StateAfter-end : (state : DecoderState) (p so_far m : List ℕ) → StateAfter state p so_far → ((table_result state 0 ≡ Ok DataComplete) × (so_far ≡ m)) ↔ Reads p m
 StateAfter-end state p so_far m s = let h = complete p m s.piece s.bytes in grind arith

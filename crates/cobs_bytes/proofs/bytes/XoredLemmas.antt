@@ -1,6 +1,7 @@
 -- Lemmas on bytes that are copied, each XORed with the sentinel. The two parts that `copy_xored_two` copies cover the
--- source (`parts-copied`), and their masks are both 0 exactly if no XORed byte is 0 (`parts-nonzero`, `parts-clear`).
--- XOR with 0 changes no byte (`xor_each-zero`), and a second XOR with the same byte restores a byte (`xor_twice`).
+-- source (`parts-copied`), and their masks are both 0 if and only if no XORed byte is 0 (`parts-nonzero`,
+-- `parts-clear`). XOR with 0 changes no byte (`xor_each-zero`), and a second XOR with the same byte restores a byte
+-- (`xor_twice`).
 use Rattle.std.proofs.Common.{◌≡◌, ◌≢◌, ℕ, ◌+◌, ◌-◌, ◌%◌, ◌^◌, ◌≤◌, cond, eqb, List, [], ◌∷◌, ◌++◌, length, map, drop, take, replicate, bit_xor, refl, ap, ◌∙◌, subst, arith, take_all, w8}
 use Rattle.std.proofs.lemmas.List.{take-map, drop-map, length-map}
 use Rattle.std.proofs.lemmas.Simd.{zip2_splat, length-chunk, bitmask_splat}

@@ -1,10 +1,9 @@
 -- On a target with SIMD vectors, a new encoder takes a message of 1 to 32 bytes (`start-after`), and `close` completes
 -- the frame. For other messages and other targets, the clauses are those of `encode_long` and `write_each`.
-use Rattle.std.proofs.Common.{arith}
+use Rattle.std.proofs.Common.{◌∙◌, arith}
 use Rattle.cobs.proofs.format.SentinelLemmas.{encoded_nonzero}
-use Rattle.cobs.proofs.encoding.TakingLemmas.{start-after}
+use Rattle.cobs.proofs.encoding.TakingLemmas.{all-rest, start-after, start-len}
 use Rattle.cobs.proofs.enc.encode.Goals as goal
-use Rattle.std.proofs.lemmas.Grind.{common_steps}
 
 -- the frame of a message that fits one window
 pub returns-then-source-le-WINDOW-clause-frame : goal.returns-then-source-le-WINDOW-clause-frame
@@ -13,7 +12,13 @@ returns-then-source-le-WINDOW-clause-frame c = c.close.ensures.frame c.args.sour
 
 -- the length of this frame
 pub returns-then-source-le-WINDOW-clause-len : goal.returns-then-source-le-WINDOW-clause-len
-returns-then-source-le-WINDOW-clause-len c = grind (arith, common_steps)
+returns-then-source-le-WINDOW-clause-len c =
+    c.close.ensures.end ∙ start-len c.args.dest.now _ c.new.ensures.start (omega arith) c.append_short-encoder.ensures
+
+-- the bytes after this frame are as they were
+pub returns-then-source-le-WINDOW-clause-rest : goal.returns-then-source-le-WINDOW-clause-rest
+returns-then-source-le-WINDOW-clause-rest c =
+    c.close.ensures.rest ∙ (rw c.close.ensures.end (all-rest c.append_short-encoder.ensures))
 
 -- no byte of this frame is a zero
 pub returns-then-source-le-WINDOW-clause-no_sentinel : goal.returns-then-source-le-WINDOW-clause-no_sentinel

@@ -1,5 +1,6 @@
 -- `try_append` has encoded the whole source with a new encoder (`start-after`), and `close` completes the frame.
 use Rattle.std.proofs.Common.{◌<◌, ◌∙◌, length, arith}
+use Rattle.std.proofs.lemmas.Grind.{common_steps}
 use Rattle.cobs.proofs.encoding.TakingLemmas.{start-after, start-len}
 use Rattle.cobs.proofs.format.SentinelLemmas.{encoded_nonzero}
 use Rattle.cobs.proofs.enc.try_encode_any.Goals as goal
@@ -17,3 +18,8 @@ returns-clause-len c =
 
 pub returns-clause-no_sentinel : goal.returns-clause-no_sentinel
 returns-clause-no_sentinel c = encoded_nonzero (returns-clause-frame c)
+
+-- `close` leaves the bytes after the frame as they were before `try_append`; the search that is made where no answer is
+-- written would take long
+pub returns-clause-rest : goal.returns-clause-rest
+returns-clause-rest c = grind (arith, common_steps)

@@ -1,25 +1,29 @@
 -- The bytes before the rest, which the loops have tested, have no zero (`Searched`). Each iteration removes four bytes,
 -- or one byte, that aren't zeros from the front of the rest (`next`, `shorter`).
-use Rattle.std.proofs.Common.{◌≡◌, ◌≢◌, ◌+◌, ◌-◌, ◌<◌, ◌≤◌, ℕ, List, length, take, drop, get_or, ap, arith, length-drop, refl, take_all}
-use Rattle.std.proofs.lemmas.List.Elements.{All-nil}
+use Rattle.std.proofs.Common.{◌≡◌, ◌≢◌, ◌+◌, ◌-◌, ◌<◌, ◌≤◌, ℕ, List, length, take, drop, get_or, ◌∙◌, ap, arith, length-drop, refl, sym}
+use Rattle.std.proofs.lemmas.List.Elements.{All-append, All-more, All-nil}
 use Rattle.std.proofs.Math.Seq.{take-add}
-use Rattle.std.proofs.lemmas.Grind.{common_steps}
+use Rattle.std.proofs.lemmas.List.{drop-drop, take_rest}
 use Rattle.cobs.specs.Grammar.{HasNoZero}
 use Rattle.cobs.proofs.find.len_to_zero.Invariants.{Searched}
 use Rattle.cobs.proofs.find.len_to_zero.Goals as goal
 
 -- if the first n bytes aren't zeros, and the next byte isn't a zero, the first n + 1 bytes aren't zeros
 next : (xs : List ℕ) (n : ℕ) → n < length xs → get_or xs n 0 ≢ 0 → HasNoZero (take n xs) → HasNoZero (take (n + 1) xs)
-next xs n here other front = grind (arith, common_steps)
+next xs n here other front = All-more (λ b. b ≢ 0) xs n 0 here front other
 
 -- if the first k bytes of the rest aren't zeros, `Searched` also holds for `after`, the rest without these bytes
 shorter : (bytes rest after : List ℕ) (k : ℕ) → Searched bytes rest → k ≤ length rest → HasNoZero (take k rest) → after ≡ take (length rest - k) (drop k rest) → Searched bytes after
 shorter bytes rest after k s within nonzero is =
     -- the number of bytes before the rest
     let n : ℕ = length bytes - length rest in
-    let after-is : after ≡ drop k rest = grind (arith, take_all, length-drop) in
-    let sum : n + k ≡ length bytes - length after = omega (arith, ap length after-is, length-drop k rest) in
-    grind (arith, common_steps, take-add)
+    let after-is : after ≡ drop k rest = is ∙ take_rest rest k in
+    let sum : length bytes - length after ≡ n + k = omega (arith, s.within, ap length after-is, length-drop k rest) in
+    record {
+      within = omega (arith, s.within, ap length after-is, length-drop k rest);
+      rest = after-is ∙ ap (drop k) s.rest ∙ drop-drop k n bytes ∙ ap (λ i. drop i bytes) (sym sum);
+      before = rw (sum, take-add n k bytes) (All-append (λ b. b ≢ 0) _ _ s.before (rw s.rest at nonzero));
+    }
 
 -- the next four bytes aren't zeros
 pub by_four-preserved : goal.by_four-preserved

@@ -1,4 +1,4 @@
--- A stream that isn't empty has unended bytes exactly if its last byte isn't a zero (`nonempty-unended_last`).
+-- A stream that isn't empty has unended bytes if and only if its last byte isn't a zero (`nonempty-unended_last`).
 use Rattle.std.proofs.Common.{arith}
 use Rattle.std.proofs.lemmas.List.{nil_from_length, append-nil}
 use Rattle.cobs.proofs.format.StreamLemmas.{nonempty-unended_last, unended-no_zero}

@@ -1,4 +1,4 @@
--- A decoder is idle exactly if no piece has begun, by `DecoderAfter-idle`.
+-- A decoder is idle if and only if no piece has begun, by `DecoderAfter-idle`.
 use Rattle.std.proofs.Common.{arith}
 use Rattle.cobs.specs.Feed.{phase_after}
 use Rattle.cobs.proofs.streaming.FeedLemmas.{DecoderAfter-idle}

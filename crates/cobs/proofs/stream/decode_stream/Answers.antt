@@ -1,11 +1,17 @@
 -- The list has the outcomes of the bytes so far (`TakesBytes`). Each piece that ends adds an outcome (`takes-piece`);
 -- the last bytes, in which no piece ends, add none (`takes-all`).
-use Rattle.std.proofs.Common.{refl, arith}
+use Rattle.std.proofs.Common.{refl, arith, Result, Ok, Err}
+use Rattle.std.specs.Result.{OnErr}
 use Rattle.std.proofs.lemmas.List.{map_push}
 use Rattle.cobs.specs.Messages.{outcome_in}
 use Rattle.cobs.proofs.streaming.FeedLemmas.{DecoderAfter-idle}
 use Rattle.cobs.proofs.streaming.SoFar.{takes-nothing, takes-all, takes-piece, piece_count, outcome_there, phase_so_far}
 use Rattle.cobs.proofs.stream.decode_stream.Goals as goal
+
+-- a fact that holds in any case holds if the result is an error
+on_err : {T E P : Type 0} (result : Result T E) → P → OnErr result P
+on_err (Ok value) fact = tt
+on_err (Err error) fact = fact
 
 -- at the start, no byte is decoded, and the list is empty
 pub by_piece-init : goal.by_piece-init
@@ -22,11 +28,11 @@ returns-in_err-push-clause-succeeds g c = λ p h none. absurd (outcome_there _ _
 
 -- memory ran out at the end of a piece, when the decoder is idle
 pub returns-in_err-frame_outcome-clause-out_of_memory : goal.returns-in_err-frame_outcome-clause-out_of_memory
-returns-in_err-frame_outcome-clause-out_of_memory g c = grind (arith, DecoderAfter-idle)
+returns-in_err-frame_outcome-clause-out_of_memory g c = on_err _ (DecoderAfter-idle _ _ c.in-Some.ensures.takes.idle)
 
 -- memory ran out for the list at the end of a piece, when the decoder is idle
 pub returns-in_err-push-clause-out_of_memory : goal.returns-in_err-push-clause-out_of_memory
-returns-in_err-push-clause-out_of_memory g c = grind (arith, DecoderAfter-idle)
+returns-in_err-push-clause-out_of_memory g c = on_err _ (DecoderAfter-idle _ _ c.in-Some.ensures.takes.idle)
 
 -- one more piece has ended, and its outcome is in the list
 pub by_piece-preserved : goal.by_piece-preserved

@@ -1,5 +1,5 @@
 -- Two vectors that overlap, each XORed with the sentinel, cover the whole source, XORed with it (`parts-copied`). One
--- of the XORed bytes is a zero exactly if one of the two masks has a set bit (`parts-nonzero`, `parts-clear`).
+-- of the XORed bytes is a zero if and only if one of the two masks has a set bit (`parts-nonzero`, `parts-clear`).
 use Rattle.std.proofs.Common.{arith}
 use Rattle.cobs_bytes.proofs.bytes.XoredLemmas.{parts-clear, parts-nonzero, parts-copied}
 use Rattle.cobs_bytes.proofs.lanes.copy_xored_two.Goals as goal

@@ -1,5 +1,5 @@
 -- The remaining characters are UTF-8, and so is the message. No character so far was hidden: a character of the message
--- is hidden exactly if one of the remaining characters is.
+-- is hidden if and only if one of the remaining characters is.
 use Rattle.std.proofs.Common.{◌≡◌, not}
 use Rattle.std.specs.List.{list_all}
 use Rattle.std.specs.Str.{IsUtf8, chars}

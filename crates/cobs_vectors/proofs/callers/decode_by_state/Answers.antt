@@ -31,7 +31,7 @@ returns-then-is_complete c =
     let frame : List ℕ = c.args.frame.now in
     -- the loop has fed all bytes of the frame
     let all : take c.by_byte.byte-index frame ≡ frame = take_all c.by_byte.byte-index frame c.by_byte-test.false in
-    -- `h` says: the zero completes the message, and the bytes so far are m, exactly if the frame reads as m
+    -- `h` says: the zero completes the message, and the bytes so far are m, if and only if the frame reads as m
     λ m. let h = c.feed-2.ensures.message frame c.by_byte.message.items m (subst (λ (p : List ℕ). StateAfter c.by_byte.state p c.by_byte.message.items) all c.by_byte.invariant) refl in
     let complete = c.is_complete.ensures.0 c.if-is_complete.true in
     (λ is. h.0 (complete, is), λ r. (h.1 r).1)
@@ -42,6 +42,6 @@ returns-else-is_complete c =
     let frame : List ℕ = c.args.frame.now in
     -- the loop has fed all bytes of the frame
     let all : take c.by_byte.byte-index frame ≡ frame = take_all c.by_byte.byte-index frame c.by_byte-test.false in
-    -- `h` says: the zero completes the message, and the bytes so far are m, exactly if the frame reads as m
+    -- `h` says: the zero completes the message, and the bytes so far are m, if and only if the frame reads as m
     λ m. let h = c.feed-2.ensures.message frame c.by_byte.message.items m (subst (λ (p : List ℕ). StateAfter c.by_byte.state p c.by_byte.message.items) all c.by_byte.invariant) refl in
     (λ none. absurd none, λ r. let reported : true ≡ false = sym (c.is_complete.ensures.1 (h.1 r).0) ∙ c.if-is_complete.false in absurd (cc))

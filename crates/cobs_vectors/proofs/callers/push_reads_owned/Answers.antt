@@ -1,4 +1,4 @@
--- `came_to` returns true exactly if the push returned the message m. If it did, the piece reads as m (`only` of
+-- `came_to` returns true if and only if the push returned the message m. If it did, the piece reads as m (`only` of
 -- `push`). If the piece reads as m (`r`), the push returned m (`reads` of `push`). `at` is the fact that the push
 -- returned m, for a buffer b.
 use Rattle.std.proofs.Common.{List, ℕ, sym, subst}

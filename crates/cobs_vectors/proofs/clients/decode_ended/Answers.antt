@@ -1,5 +1,5 @@
--- By the clauses `reads` and `only` of the push, a message is returned exactly if the piece reads as this message and
--- the message fits the buffer (`reported`).
+-- By the clauses `reads` and `only` of the push, a message is returned if and only if the piece reads as this message
+-- and the message fits the buffer (`reported`).
 use Rattle.std.proofs.Common.{◌≤◌, ◌↔◌, length, List, ℕ, subst, arith}
 use Rattle.cobs.specs.Grammar.{Reads}
 use Rattle.cobs.specs.Fields.Decoders.{borrowed_buffer}

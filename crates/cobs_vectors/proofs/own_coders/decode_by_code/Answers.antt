@@ -38,7 +38,8 @@ module _ (list : List ℕ) (read : ℕ) (nonzero : HasNoZero list) (within : rea
 
   -- more bytes are left than the code says, so more bytes follow the block
   module _ (far : get_or list read 0 < length list - read) where
-    -- the bytes from the index on are whole exactly if the bytes after the block are; `whole` is a clause of `law_20`
+    -- the bytes from the index on are whole if and only if the bytes after the block are; `whole` is a clause of
+    -- `law_20`
     whole_more : ((block p : List ℕ) → IsBlock block → p ≢ [] → is_whole (block ++ p) ≡ is_whole p) → is_whole (drop read list) ≡ is_whole (drop (read + get_or list read 0) list)
     whole_more whole = ap is_whole (split list read nonzero within) ∙ whole (block_at list read) (drop (read + code) list) block (more_some list read nonzero within far)
 

@@ -1,5 +1,5 @@
 -- The output so far, followed by the kept output of the bytes from index `read` on, is the kept output of the piece
--- (`kept`). The piece is whole exactly if these bytes are (`whole`). The loop ends, because a code isn't 0.
+-- (`kept`). The piece is whole if and only if these bytes are (`whole`). The loop ends, because a code isn't 0.
 use Rattle.std.proofs.Common.{◌≡◌, ◌++◌, ◌-◌, ◌<◌, drop, length}
 use Rattle.cobs.specs.Piece.{is_whole, kept_output}
 use Rattle.cobs_vectors.proofs.own_coders.decode_by_code.Given as goal

@@ -1,4 +1,4 @@
--- `push` returns an error exactly if there is no room (`room`). If it succeeds, the open block is within the buffer
+-- `push` returns an error if and only if there is no room (`room`). If it succeeds, the open block is within the buffer
 -- (`within`), so `finalize` succeeds too (`place`).
 use Rattle.std.proofs.Common.{refl}
 use Rattle.std.proofs.lemmas.Result.{err_from_is_err_and}

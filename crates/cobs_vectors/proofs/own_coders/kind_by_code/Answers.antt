@@ -30,12 +30,12 @@ module _ (list : List ℕ) (read : ℕ) (nonzero : HasNoZero list) (within : rea
     block : IsBlock (block_at list read)
     block = grind (arith, is_block)
 
-    -- the bytes from the index on are a frame exactly if the bytes after the block are a frame; `law` is the clause
+    -- the bytes from the index on are a frame if and only if the bytes after the block are a frame; `law` is the clause
     -- `frame` of `law_19`
     frame_left : ((block f : List ℕ) → IsBlock block → f ≢ [] → (IsFrame (block ++ f) ↔ IsFrame f)) → IsFrame (drop read list) ↔ IsFrame (drop (read + get_or list read 0) list)
     frame_left law = subst (λ (x : List ℕ). IsFrame x ↔ IsFrame (drop (read + get_or list read 0) list)) (sym (split list read nonzero within)) (law (block_at list read) (drop (read + get_or list read 0) list) block (more_some list read nonzero within far))
 
-    -- the bytes from the index on are canonical exactly if the bytes after the block are, and aren't the lone block
+    -- the bytes from the index on are canonical if and only if the bytes after the block are, and aren't the lone block
     -- after a full block; `law` is the clause `canonical` of `law_19`
     canonical_left : ((block f : List ℕ) → IsBlock block → f ≢ [] → (IsCanonical (block ++ f) ↔ (IsCanonical f × (IsFull block → f ≢ lone_block))))
         → IsCanonical (drop read list) ↔ (IsCanonical (drop (read + get_or list read 0) list) × (IsFull (block_at list read) → drop (read + get_or list read 0) list ≢ lone_block))

@@ -1,5 +1,5 @@
--- The piece is a frame exactly if the bytes from index `read` on are one. It is canonical exactly if these bytes are,
--- and aren't the lone block after a full block (`after_full`). The loop ends, because a code isn't 0.
+-- The piece is a frame if and only if the bytes from index `read` on are one. It is canonical if and only if these
+-- bytes are, and aren't the lone block after a full block (`after_full`). The loop ends, because a code isn't 0.
 use Rattle.std.proofs.Common.{◌≢◌, ◌↔◌, ◌-◌, ◌<◌, IsTrue, drop, length}
 use Rattle.cobs.specs.Grammar.{IsCanonical, IsFrame, lone_block}
 use Rattle.cobs_vectors.proofs.own_coders.kind_by_code.Given as goal

@@ -1,5 +1,5 @@
--- If the call returned a message, it is m exactly if the piece reads as m (`only`, `reads`). If the call returned an
--- error, the piece reads as no message, since `reads` says that the call would have returned it.
+-- If the call returned a message, it is m if and only if the piece reads as m (`only`, `reads`). If the call returned
+-- an error, the piece reads as no message, since `reads` says that the call would have returned it.
 use Rattle.cobs_vectors.proofs.receivers.message_in_place.Goals as goal
 
 pub returns-in-Ok : goal.returns-in-Ok

@@ -1,6 +1,6 @@
--- If the call returned a message, it is m exactly if the piece reads as m (`only`, `reads`). If the call returned an
--- error, the piece reads as no message, since `reads` says that the call would have returned it. The XORed bytes are a
--- piece (`coded` of `law_6`, `coded_piece`).
+-- If the call returned a message, it is m if and only if the piece reads as m (`only`, `reads`). If the call returned
+-- an error, the piece reads as no message, since `reads` says that the call would have returned it. The XORed bytes are
+-- a piece (`coded` of `law_6`, `coded_piece`).
 -- `law_6`: No frame contains its sentinel; a second XOR restores the frame.
 use Rattle.cobs_vectors.proofs.Pieces.{coded_piece}
 use Rattle.cobs_vectors.proofs.receivers.message_in_place_for.Goals as goal

@@ -1,5 +1,5 @@
--- If the call returned a message, it is m exactly if the piece reads as m (`only`, `reads`). If the call returned an
--- error, the piece reads as no message, since `reads` says that the call would have returned it. `tt` is the premise
+-- If the call returned a message, it is m if and only if the piece reads as m (`only`, `reads`). If the call returned
+-- an error, the piece reads as no message, since `reads` says that the call would have returned it. `tt` is the premise
 -- that memory didn't run out.
 use Rattle.cobs_vectors.proofs.receivers.message_of.Goals as goal
 

@@ -1,5 +1,5 @@
--- By `pushed` and `pushed_only` of `law_18`, a message is returned exactly if the piece reads as this message and the
--- message fits the buffer (`reported`).
+-- By `pushed` and `pushed_only` of `law_18`, a message is returned if and only if the piece reads as this message and
+-- the message fits the buffer (`reported`).
 -- `law_18`: Streaming decoders return the message of each frame, and no other message.
 use Rattle.std.proofs.Common.{◌↔◌, ◌<◌, ◌≤◌, List, ℕ, length}
 use Rattle.std.proofs.lemmas.List.Elements.{All-from_get_or}
@@ -8,8 +8,8 @@ use Rattle.cobs.specs.Headline.{PushesMessage}
 use Rattle.cobs_vectors.proofs.receivers.push_reads_unbuffered.Goals as goal
 use Rattle.cobs_vectors.proofs.receivers.push_reads_unbuffered.Goals.{After-push}
 
--- `pushed` and `pushed_only` of `law_18` together: the push returned m exactly if the piece reads as m and m fits the
--- buffer
+-- `pushed` and `pushed_only` of `law_18` together: the push returned m if and only if the piece reads as m and m fits
+-- the buffer
 reported : (c : After-push) (m : List ℕ) → PushesMessage c.push.result c.push.new.dest m ↔ (Reads c.args.piece.now m × (length m ≤ length c.args.dest.now))
 reported c m =
     -- each byte is below 256 (`below`), and the new decoder is idle (`idle`), as the fields of `law_18` require

@@ -1,6 +1,6 @@
--- If the call returned a message, it is m exactly if the piece reads as m (`only`, `reads`). If the call returned an
--- error, the piece reads as no message, since `reads` says that the call would have returned it. `size` says that the
--- length is that of the report.
+-- If the call returned a message, it is m if and only if the piece reads as m (`only`, `reads`). If the call returned
+-- an error, the piece reads as no message, since `reads` says that the call would have returned it. `size` says that
+-- the length is that of the report.
 use Rattle.cobs_vectors.proofs.receivers.report_in_place.Goals as goal
 
 pub returns-in-Ok : goal.returns-in-Ok

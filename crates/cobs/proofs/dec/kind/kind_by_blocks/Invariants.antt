@@ -1,4 +1,4 @@
--- The bytes are a frame exactly if the bytes from `read` on are a frame, since only whole blocks precede `read`
+-- The bytes are a frame if and only if the bytes from `read` on are a frame, since only whole blocks precede `read`
 -- (`BlocksBehind`).
 use Rattle.std.proofs.Common.{◌-◌, ◌≤◌, drop, length}
 use Rattle.cobs.proofs.format.KindLemmas.{BlocksBehind}

@@ -1,18 +1,32 @@
 -- Each iteration takes a part of the run (`slice-joined`), which may fill the open block (`front-filled`). The zero
--- after the run closes the block that is then open (`byte-zero`).
+-- after the run closes the block that is then open (`byte-zero`). The answers `grind (arith, common_steps)` are written
+-- because the search for goals without an answer would take long.
 use Rattle.std.proofs.Common.{◌≡◌, ◌==◌, ◌+◌, ◌-◌, ℕ, List, drop, get_or, refl, arith, length-drop}
 use Rattle.std.specs.Prelude.{not}
 use borrow.Rule.Slice.PartMut.{put_mid}
+use Rattle.std.proofs.lemmas.Grind.{common_steps}
 use Rattle.std.proofs.lemmas.List.{drop_more}
 use Rattle.cobs.specs.OpenBlock.{Reached, place_at}
 use Rattle.cobs.specs.Internal.Reaches.{Reaches, start_with}
 use Rattle.cobs.proofs.encoding.ByteLemmas.{byte-zero}
 use Rattle.cobs.proofs.encoding.ReachLemmas.{IsNotFull}
 use Rattle.cobs.proofs.encoding.MarkLemmas.{slice-joined}
-use Rattle.cobs.proofs.encoding.TakingLemmas.{front-filled, front-next, front-open, next-least, reaches-start}
+use Rattle.cobs.proofs.encoding.TakingLemmas.{front-filled, front-next, front-none, front-open, next-least, reaches-start}
 use Rattle.cobs.proofs.enc.blocks.append_long_run.Goals.{After-copy_from_slice}
 use Rattle.cobs.proofs.enc.blocks.append_long_run.Goals as goal
 use Rattle.cobs_bytes.proofs.bytes.ListLemmas.{part-nonzero}
+
+-- at the start, no byte is taken
+pub by_block-init : goal.by_block-init
+by_block-init c =
+    let start = c.args.encoder in
+    let code : start.index + (start.taken + 1) - start.index ≡ start.taken + 1 = omega arith in
+    record {
+      within = omega arith;
+      ordered = omega arith;
+      short = omega arith;
+      taken = rw code (front-none c.requires.place);
+    }
 
 -- the part that is copied fits the slice, because each byte that is left needs at least one byte of the frame
 -- (`next-least`)
@@ -66,6 +80,13 @@ by_block-preserved-then-next-index c =
       -- the steps so far, and then this step (`front-next`), which `front-filled` states
       taken = front-next c.by_block.read refl c.by_block.invariant.taken c.min-len.result (front-filled (omega arith) c.if-next-index.true s (omega arith) refl);
     }
+
+-- the place of the open block's code is within the slice, in the loop and after it
+pub bounds-dest-index : goal.bounds-dest-index
+bounds-dest-index c = grind (arith, common_steps)
+
+pub bounds-dest-index-2 : goal.bounds-dest-index-2
+bounds-dest-index-2 c = grind (arith, common_steps)
 
 -- if bytes are left after the loop, the next byte is the zero after the run, and it closes the open block
 pub returns-clause-taken : goal.returns-clause-taken

@@ -1,5 +1,6 @@
 -- Each iteration takes one of these: a window without a zero (`masked-end`), a window whose zeros close blocks
--- (`masked-step`), one or more windows of zeros (`row-taken`), or the bytes that fill the open block (`filled`).
+-- (`masked-step`), one or more windows of zeros (`row-taken`), or the bytes that fill the open block (`filled`). The
+-- answers `grind (arith, common_steps)` are written because the search for goals without an answer would take long.
 use Rattle.std.proofs.Common.{ℕ, ◌≡◌, refl, ◌≢◌, ◌<◌, ◌≤◌, ◌+◌, ◌-◌, min, arith, length, take, drop, length-drop}
 use lib.Count.{count_trailing_zeros}
 use Rattle.std.proofs.lemmas.Grind.{common_steps}
@@ -57,6 +58,10 @@ by_window-init c =
     let short = c.requires.place.not_full in
     record { more = omega arith; open' = omega arith; reaches = Reaches-weaker (reaches-start c.requires.some c.requires.place.some short) (grind arith) }
 
+-- there is room for the window, as `copy_at` requires
+pub copy_at-window-requires-clause-room : goal.copy_at-window-requires-clause-room
+copy_at-window-requires-clause-room c = grind (arith, common_steps)
+
 -- a window without a zero is taken, and the open block stays open
 pub by_window-preserved-then-next-index : goal.by_window-preserved-then-next-index
 by_window-preserved-then-next-index c =
@@ -67,6 +72,14 @@ by_window-preserved-then-next-index c =
 -- `mark_zeros` gets the mask without the first zero
 pub mark_zeros-index-requires : goal.mark_zeros-index-requires
 mark_zeros-index-requires c = (_, _, _, coded (goal.at.mark_zeros-index-requires c).After-copy_at-window c.if-window-eq0.false (omega arith))
+
+-- there is room for the codes of the bytes that are left, as `write_codes_of_zeros` requires
+pub write_codes_of_zeros-zeros-requires-clause-room : goal.write_codes_of_zeros-zeros-requires-clause-room
+write_codes_of_zeros-zeros-requires-clause-room c = grind (arith, common_steps)
+
+-- the index after these codes doesn't overflow
+pub overflow_add-next-then-window-eq-ALL_ZEROS : goal.overflow_add-next-then-window-eq-ALL_ZEROS
+overflow_add-next-then-window-eq-ALL_ZEROS c = grind (arith, common_steps)
 
 -- `write_codes_of_zeros` has written the codes for n zeros, so these zeros are taken; there is at least one zero, and a
 -- byte is left after them

@@ -3,6 +3,7 @@
 -- byte, because a full block is closed before the part (`opened`). The last block is closed at the end, whether it is
 -- full or not (`whole-frame`).
 use Rattle.std.proofs.Common.{length, ◌≡◌, ◌<◌, ◌+◌, ◌-◌, ◌∙◌, false, ℕ, List, drop, get_or, take, refl, arith, ◌≤◌, sym, inl, inr, append-nil}
+use Rattle.std.proofs.lemmas.Grind.{common_steps}
 use Rattle.std.proofs.lemmas.List.{get_or-drop, get_or-take, drop-set-lt}
 use Rattle.cobs.specs.Internal.Reaches.{Reaches, HadTaken, Start, start_with, whole_end}
 use Rattle.cobs.proofs.encoding.ReachLemmas.{IsNotFull, Reaches-at, Reaches-full, Reaches-zero, ends}
@@ -87,6 +88,10 @@ opened c =
 -- at the start of a part, no byte of the part is taken
 pub by_byte-init : goal.by_byte-init
 by_byte-init c = grind (arith, opened)
+
+-- the byte's place is within the slice; the search that is made where no answer is written would take long
+pub bounds-dest-next : goal.bounds-dest-next
+bounds-dest-next c = grind (arith, common_steps)
 
 -- one more byte of the part is taken
 pub by_byte-preserved : goal.by_byte-preserved

@@ -10,7 +10,7 @@ use Rattle.cobs.proofs.format.LengthLemmas.{encoded_len-le}
 use Rattle.cobs.proofs.format.SentinelLemmas.{encoded_nonzero}
 use Rattle.cobs.proofs.encoding.AfterLemmas.{after-end, after-place, end-is}
 use Rattle.cobs.proofs.encoding.ByteLemmas.{room-only}
-use Rattle.cobs.proofs.encoding.TakingLemmas.{next-least}
+use Rattle.cobs.proofs.encoding.TakingLemmas.{all-after, all-end, all-rest, next-least}
 use Rattle.cobs.proofs.enc.in_place.encode_in_place.Goals as goal
 use Rattle.cobs_bytes.proofs.bytes.ListLemmas.{drop-later}
 
@@ -66,7 +66,13 @@ by_byte-preserved c =
     there _ at c.by_byte.buffer old (omega arith) i.rest ∙ sym (grind (arith, get_or-drop)) in
     -- the message so far, with this byte
     let more : take (c.by_byte.taken + 1) (drop before old) ≡ take c.by_byte.taken (drop before old) ++ get_or c.by_byte.buffer at 0 ∷ [] = grind (arith, take_more) in
-    grind (arith, drop-later, next-least r (get_or c.by_byte.buffer at 0 ∷ []) (after-place i.after).some (omega arith))
+    -- the frame isn't shorter after the byte
+    let later : end_of r ≤ end_of (reached_by c.append_byte.new.self) =
+    omega (arith, all-end e, end-le r, next-least r (get_or c.by_byte.buffer at 0 ∷ []) (after-place i.after).some (omega arith)) in
+    record {
+      after = rw more (all-after e _ i.after);
+      rest = all-rest e ∙ drop-later _ _ _ _ later i.rest;
+    }
 
 -- the encoder's state is possible, as `close_block` requires
 pub close_block-requires : goal.close_block-requires

@@ -1,6 +1,6 @@
--- The frame fits exactly if the rest of it fits. This follows from `total`, in which `counted` full blocks come before
--- the current run, and this run has `run` bytes before index `read`. `first` is the length of the first run, or 0 if
--- this length isn't known. The loop ends, because each iteration makes `read` greater.
+-- The frame fits if and only if the rest of it fits. This follows from `total`, in which `counted` full blocks come
+-- before the current run, and this run has `run` bytes before index `read`. `first` is the length of the first run, or
+-- 0 if this length isn't known. The loop ends, because each iteration makes `read` greater.
 use Rattle.std.proofs.Common.{◌≡◌, ◌<◌, ◌≤◌, ◌+◌, ◌-◌, length, drop}
 use Rattle.cobs.specs.Length.{open_len}
 use Rattle.cobs.specs.Internal.Taking.{IsFirstRun}

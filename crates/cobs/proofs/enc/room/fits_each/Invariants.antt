@@ -1,4 +1,4 @@
--- The frame fits exactly if the remaining bytes fit with `left` spare bytes. This follows from `total`, in which i
+-- The frame fits if and only if the remaining bytes fit with `left` spare bytes. This follows from `total`, in which i
 -- bytes are counted, the open block had `fn.taken` bytes before the call, and has `taken` bytes now.
 use Rattle.std.proofs.Common.{◌≡◌, ◌+◌, ◌<◌, drop}
 use Rattle.cobs.specs.Length.{open_len}

@@ -1,7 +1,7 @@
 -- The clauses follow from the clause `takes` of the decoder's `feed_piece`. If a piece ended, it is the first piece
 -- that ends in the bytes that were passed (`EndsFirstIn-taken`). If no piece ended, the decoder has taken all these
 -- bytes.
-use Rattle.std.proofs.Common.{arith, ℕ, List, [], length, refl}
+use Rattle.std.proofs.Common.{arith, ℕ, List, [], length, refl, sym}
 use Rattle.std.proofs.Math.Bridge.{le_prop}
 use Rattle.std.proofs.Math.Logic.{∥∥₁_elim, ∥∥₁_map}
 use Rattle.cobs.specs.FeedPiece.{outcome_at}
@@ -25,7 +25,13 @@ next_within (nexts.End unfinished) buffer some h = tt
 
 -- no piece ended: the decoder has taken all bytes, and no outcome was reported
 pub returns-in-None-clause-none : goal.returns-in-None-clause-none
-returns-in-None-clause-none g c = grind (arith, HasTaken-any)
+returns-in-None-clause-none g c = λ p h.
+    let t = c.in-None.ensures.takes.takes in
+    -- the flag was right for p
+    let was = HasTaken-any _ _ _ p c.args.self.now.has_taken h in (
+      record { none_ended = rw t.len (sym (t.outcomes p h)); after = t.after p h; nothing_kept = refl },
+      c.is_unfinished-self.ensures.unfinished p was.flag h.phased.piece,
+    )
 
 -- a piece ended: the facts of `ReportsFirst`, if the decoder had been fed p before
 pub returns-in-Some-clause-first : goal.returns-in-Some-clause-first

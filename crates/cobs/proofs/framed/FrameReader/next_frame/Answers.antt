@@ -2,13 +2,19 @@
 -- ends (`Going-push`). For each way in which the call can end, `ReadingLemmas` has a lemma whose name begins with
 -- `ReadsNext`: a piece ends in the kept bytes, a read fails, the source ends, a piece ends in the bytes of a read, or
 -- too many reads were made. No step changes which buffer the decoder was lent (`same_loan`).
-use Rattle.std.proofs.Common.{◌≡◌, [], subst, take, Some, arith}
+use Rattle.std.proofs.Common.{◌≡◌, ◌-◌, [], subst, drop, length-take, take, Some, arith}
 use Rattle.cobs.proofs.streaming.ReadingLemmas.{Going-start, Going-push, ReadsNext-kept, ReadsNext-failed, ReadsNext-end, ReadsNext-piece, ReadsNext-too_many, front_rest, empty_range, left_of_range}
 use Rattle.cobs.proofs.framed.FrameReader.next_frame.Goals as goal
 
 -- a piece ends in the kept bytes, so nothing is read
 pub returns-in-Some-clause-next : goal.returns-in-Some-clause-next
-returns-in-Some-clause-next g c = grind (arith, ReadsNext-kept, left_of_range)
+returns-in-Some-clause-next g c =
+    let r = c.args.self.now in
+    let e = c.in-Some.ensures in
+    -- the bytes after the piece are kept
+    let kept = left_of_range r.chunk r.start r.end c.in-Some.count
+    (omega (arith, e.within, length-take (r.end - r.start) (drop r.start r.chunk))) in
+    ReadsNext-kept _ _ _ _ _ (λ p b. rw (e.same_chunk, e.same_start, e.same_end) (rw kept at (e.first p b))) e.idle
 
 -- before the first read
 pub by_read-init : goal.by_read-init

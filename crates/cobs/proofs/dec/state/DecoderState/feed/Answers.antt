@@ -10,7 +10,7 @@ returns-clause-after c = λ p so_far s some.
     -- the call returned the result and the state of the table's row, which `StateAfter-step` is about
     rw (c.row-returned.ensures.returned, c.row-returned.ensures.state) (StateAfter-step c.args.self.now p so_far c.args.byte c.ranges.byte.fits s some)
 
--- a zero: the result is `DataComplete`, and the data so far is m, exactly if the bytes so far are a frame of m
+-- a zero: the result is `DataComplete`, and the data so far is m, if and only if the bytes so far are a frame of m
 pub returns-clause-message : goal.returns-clause-message
 returns-clause-message c = λ p so_far m s zero. rw (c.row-returned.ensures.returned, zero) (StateAfter-end c.args.self.now p so_far m s)
 

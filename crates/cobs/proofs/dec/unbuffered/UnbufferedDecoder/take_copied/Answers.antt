@@ -20,5 +20,5 @@ returns-then-len-missing-clause-fed c before xs room long is = grind (arith, kep
 pub returns-clause-fed : goal.returns-clause-fed
 returns-clause-fed c before xs room long is =
     let j = c.settle.ensures in
-    -- `marked` needs that `joint` agrees with the last code: it is 0 exactly if this code is 255 (`joint-is`)
+    -- `marked` needs that `joint` agrees with the last code: it is 0 if and only if this code is 255 (`joint-is`)
     rw j.rest (marked c.args.self.now (length c.args.copied.now) c.args.dest.now (rw (← c.requires.copied) at c.requires.nonzero) before xs room long is c.requires.going c.requires.full c.requires.few (omega arith) _ _ _ _ c.write_zeros_at_copied.ensures (joint-is _ _ j.full j.other))

@@ -1,11 +1,14 @@
 -- Each byte is one more step of the encoder (`front-next`): a zero closes the open block, and any other byte joins this
--- block, or fills and closes it. There is room for each byte, because the frame of the whole source fits.
-use Rattle.std.proofs.Common.{◌≡◌, ◌<◌, ◌≤◌, ◌+◌, ◌-◌, List, ℕ, true, false, drop, get_or, length, length-drop, refl, sym, ap, ◌∙◌, arith}
+-- block, or fills and closes it. There is room for each byte, because the frame of the whole source fits. The answers
+-- `grind (arith, common_steps)` are written because the search for goals without an answer would take long.
+use Rattle.std.proofs.Common.{◌≡◌, ◌<◌, ◌≤◌, ◌+◌, ◌-◌, ◌==◌, List, ℕ, true, false, drop, get_or, length, length-drop, refl, sym, ap, ◌∙◌, arith}
+use Rattle.std.specs.Prelude.{not}
+use Rattle.std.proofs.lemmas.Grind.{common_steps}
 use Rattle.std.proofs.lemmas.List.{get_or-drop}
 use Rattle.cobs.specs.Internal.Taking.{TakesFront}
 use Rattle.cobs.specs.OpenBlock.{Reached, end_after, place_at}
 use Rattle.cobs.proofs.encoding.ByteLemmas.{byte-fills, byte-joins, byte-zero}
-use Rattle.cobs.proofs.encoding.TakingLemmas.{front-next}
+use Rattle.cobs.proofs.encoding.TakingLemmas.{front-next, front-none}
 use Rattle.cobs.proofs.enc.unbuffered.UnbufferedEncoder.append_each.Goals as goal
 
 -- if the first i bytes are taken, and then the next byte, the first i + 1 bytes are taken; `after` and `named` are the
@@ -13,6 +16,24 @@ use Rattle.cobs.proofs.enc.unbuffered.UnbufferedEncoder.append_each.Goals as goa
 next : {old slice after named source : List ℕ} {r r' r'' : Reached} (i : ℕ) → TakesFront old r source i slice r' → after ≡ named
     → TakesFront slice r' (drop i source) 1 after r'' → TakesFront old r source (i + 1) named r''
 next i before is byte = rw (sym is) (front-next i refl before 1 byte)
+
+-- at the start, no byte is taken
+pub by_byte-init : goal.by_byte-init
+by_byte-init c =
+    let code : c.args.self.now.index + c.args.self.now.taken + 1 - c.args.self.now.index ≡ c.args.self.now.taken + 1 = omega arith in
+    record {
+      ordered = omega arith;
+      short = omega arith;
+      left = omega arith;
+      taken = (not (c.args.self.now.full == 0), λ lt. absurd (omega arith), rw code (front-none c.requires.place));
+    }
+
+-- the byte's place and the place of the open block's code are within the slice, because there is room for the byte
+pub bounds-dest-next : goal.bounds-dest-next
+bounds-dest-next c = grind (arith, common_steps)
+
+pub bounds-dest-index : goal.bounds-dest-index
+bounds-dest-index c = grind (arith, common_steps)
 
 -- one more byte is taken
 pub by_byte-preserved : goal.by_byte-preserved
@@ -64,3 +85,7 @@ by_byte-preserved c =
         | goal.else-byte-eq0+else-left-eq0 w ↦ absurd (w.if-byte-eq0.false a.if-byte-ne0.false)
       ]
     ]
+
+-- after the loop, all bytes are taken
+pub returns : goal.returns
+returns c = grind (arith, common_steps)

@@ -1,6 +1,6 @@
 -- The first `i` bytes are taken (`taken`), and the open block has room for a byte (`short`): `left` more bytes would
--- fill it. Once a byte is taken, the frame ends in a full block exactly if the open block has only its code, and the
--- last byte that was taken isn't a zero.
+-- fill it. Once a byte is taken, the frame ends in a full block if and only if the open block has only its code, and
+-- the last byte that was taken isn't a zero.
 use Rattle.std.proofs.Common.{◌≡◌, ◌<◌, ◌+◌, ◌-◌, ◌==◌, Bool, false, get_or}
 use Rattle.std.specs.Prelude.{if◌then◌else◌, not}
 use Rattle.cobs.specs.Fields.Progress.{reached_by}

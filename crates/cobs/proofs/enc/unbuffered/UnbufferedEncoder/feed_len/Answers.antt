@@ -1,5 +1,5 @@
--- There is room for the byte exactly if none of the three tests is true (`room-only`, `has-room`). Then `append_byte`
--- takes the byte.
+-- There is room for the byte if and only if none of the three tests is true (`room-only`, `has-room`). Then
+-- `append_byte` takes the byte.
 use Rattle.std.proofs.Common.{[], ◌∷◌, length, refl, arith, rules}
 use Rattle.cobs.specs.Fields.Progress.{reached_by}
 use Rattle.cobs.specs.OpenBlock.{HasRoomFor}

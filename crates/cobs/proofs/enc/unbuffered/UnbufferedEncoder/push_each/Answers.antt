@@ -1,4 +1,4 @@
--- Only the clauses `fits`, `taken` and `rest` are proved here, as for `push`. For `fits`, the length of the frame of
+-- Most clauses that are proved here are `fits`, `taken` and `rest`, as for `push`. For `fits`, the length of the frame of
 -- all bytes so far is `end_after` (`after-end`), and `has_room` compares that index with the slice (`end-with`). An
 -- encoder that has taken a message has a possible state (`after-place`), so it takes a push of no bytes.
 use Rattle.std.proofs.Common.{append-nil, [], ◌≡◌, ◌≢◌, length, refl, arith}
@@ -20,6 +20,9 @@ returns-then-self-ne0-clause-fits c = λ m h.
     let none : c.args.bytes.now ≡ [] = grind (arith, common_steps) in
     rw (none, append-nil) (λ t. after-fits h, λ le. refl)
 
+pub returns-then-self-ne0-clause-taken : goal.returns-then-self-ne0-clause-taken
+returns-then-self-ne0-clause-taken c = grind (arith, common_steps)
+
 -- no bytes are pushed, but the push is refused: the state is impossible in this slice
 pub returns-then-is_empty-clause-fits : goal.returns-then-is_empty-clause-fits
 returns-then-is_empty-clause-fits c = λ m h. grind (arith, after-place h)
@@ -32,6 +35,14 @@ returns-then-not-has_room-clause-fits c = λ m h.
     -- `end`: the index at which the frame would end is the one that `has_room` was asked about
     let end = end-with c.args.self.now c.args.bytes.now (place-short c.args.self.now _ (after-place h)) (omega arith) in
     (λ t. cc, λ le. cc (c.has_room.ensures.fits.1 (omega arith)))
+
+-- if there is room for the bytes, the state is possible, as `append_each` requires
+pub append_each-requires-clause-place : goal.append_each-requires-clause-place
+append_each-requires-clause-place c = grind (arith, common_steps)
+
+-- there is room for the bytes, as `has_room` says
+pub returns-clause-room : goal.returns-clause-room
+returns-clause-room c = grind (arith, common_steps)
 
 -- the bytes are taken, so the frame fits
 pub returns-clause-fits : goal.returns-clause-fits

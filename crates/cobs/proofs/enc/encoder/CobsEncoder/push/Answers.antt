@@ -1,0 +1,8 @@
+-- The clauses of `UnbufferedEncoder::push` say the same of the encoder and the slice; only `rest` counts the end of the
+-- frame by `encoded_len` (`end-is`). The search that is made where no answer is written would take long for this goal.
+use Rattle.std.proofs.Common.{arith}
+use Rattle.cobs.proofs.encoding.TakingLemmas.{encoder_steps}
+use Rattle.cobs.proofs.enc.encoder.CobsEncoder.push.Goals as goal
+
+pub returns-clause-rest : goal.returns-clause-rest
+returns-clause-rest c = grind (arith, encoder_steps)
