@@ -1,9 +1,10 @@
 #!/usr/bin/env python3
-"""Writes cobs_small.ll, with which the tests compare jcobs.c, of the module that rt makes: simplify.py MODULE CLANG cobs_small.ll
+"""Writes cobs_small.ll, with which the tests compare jcobs.c: simplify.py MODULE CLANG cobs_small.ll
 
-MODULE is LLVM text. Of the exported functions, which only put some address in place of a null pointer and call the proved
-function of the same name, the latter are kept under the exported names. All others are put into their callers. CLANG,
-the toolchain's own, then simplifies each function, with neither vectors nor calls of a C library.
+MODULE is the LLVM text that rt writes for the crate cobs_small. An exported function only replaces a null pointer by some
+address, and calls the proved function with the same name. The script removes the exported functions, and gives their names to
+the proved functions. It marks all other functions, so that they are inlined into their callers. CLANG is the clang of the
+toolchain; it simplifies each function, and uses neither vectors nor calls of a C library.
 """
 
 import re

@@ -1,4 +1,4 @@
-// Computes the cyclic redundancy checks of cobs_watch, under its names. They detect damage that COBS doesn't notice.
+// Computes four of the CRCs that cobs_watch can check. They detect damage that COBS doesn't notice.
 
 export const KINDS = {
   "crc16-ccitt-false": { bits: 16, poly: 0x1021, init: 0xffff, isReflected: false, xorOut: 0 },
