@@ -697,7 +697,8 @@ static JCOBS_INLINE size_t jcobs_decoder_take_byte(jcobs_decoder *decoder, unsig
     return jcobs_min(at, buffer_size);
 }
 
-/* Ends the open piece at a zero, and returns how the piece ended. The buffer has buffer_size bytes. */
+/* Ends the open piece, if there is one, at a zero, and returns how the piece ended. The buffer has buffer_size
+ * bytes. */
 static JCOBS_INLINE jcobs_end jcobs_decoder_end_piece(jcobs_decoder *decoder, size_t buffer_size)
 {
     jcobs_decoder before = *decoder;
@@ -881,7 +882,7 @@ static JCOBS_INLINE void jcobs_encoder_append_bytes(jcobs_encoder *encoder, unsi
             next++;
             left--;
         }
-        /* A zero ends the open block. The 254th nonzero byte of the block ends it too. */
+        /* A zero ends the open block, and so does the 254th byte after the block's code. */
         if (byte == 0 || left == 0) {
             buffer[index] = (unsigned char)(next - index);
             index = next;
@@ -904,8 +905,8 @@ static JCOBS_INLINE void jcobs_encoder_append_bytes(jcobs_encoder *encoder, unsi
 static int jcobs_encoder_try_append(jcobs_encoder *encoder, unsigned char *buffer, size_t buffer_size,
                                     const unsigned char *bytes, size_t len)
 {
-    /* An open block has at most 253 bytes; `taken` is greater only if the caller has changed the encoder's
-     * numbers. */
+    /* An open block has at most 253 bytes after its code; `taken` is greater only if the caller has changed the
+     * encoder's numbers. */
     if (encoder->taken >= JCOBS_FULL_BLOCK_BYTES || buffer_size < encoder->index) {
         return 0;
     }

@@ -71,7 +71,7 @@ written_in (phases.Within full left count) = count
 written_in phases.Overlong = 0
 
 -- the result of a streaming decoder that has written n bytes, given the result of the table, if the buffer has room for
--- the byte of the message that the table's result may contain
+-- these n bytes and the byte of the message that the table's result may contain
 abbrev pub counted : ℕ → Result DecodeResult DecodeError → Result (Option ℕ) DecodeError
 counted n (Ok NoData) = Ok None
 counted n (Ok DataStart) = Ok None
@@ -85,8 +85,8 @@ counted n (Err error) = Err (InvalidFrame n)
 pub record FeedsByTable (n : ℕ) (phase : Phase) (byte : ℕ) (result : Result (Option ℕ) DecodeError) (phase' : Phase) : Type 0 where
   -- the state changes as the table says, unless the output is too long after this byte
   pub next : (state : DecoderState) → state_in phase ≡ Some state → phase' ≢ phases.Overlong → state_in phase' ≡ Some (table_state state byte)
-  -- the result is that of the table, unless the table's result contains a byte of the message for which the buffer has
-  -- no room
+  -- the result is that of the table, unless the buffer has no room for the written bytes and the byte of the message
+  -- that the table's result may contain
   pub returned : (state : DecoderState) → state_in phase ≡ Some state
       → (result ≡ counted (written_in phase) (table_result state byte))
       ⊎ ((result ≡ Err TargetBufTooSmall) × (n < written_in phase + length (data_of (table_result state byte))))

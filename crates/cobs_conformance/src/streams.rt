@@ -110,24 +110,24 @@ impl Streaming for ByBytes {
 /// `Malformed` if an argument can't be parsed, or if [`heapless`] has no decoder whose buffer has the length of the
 /// case's buffer. `OutOfMemory` if memory ran out.
 pub fn decoder(alloc: Global, arguments: &[&str]) -> Result<CallResult, CaseFault> {
-    let [buffer, pieces @ ..] = arguments else {
+    let [buffer, chunks @ ..] = arguments else {
         return Err(CaseFault::Malformed);
     };
     let buffer = bytes_of(alloc, buffer)?;
-    let mut returned = owned(alloc, &buffer, pieces, &Feeding::Pushes)?;
-    returned.append_other(owned(alloc, &buffer, pieces, &Feeding::Bytes)?)?;
-    returned.append_other(borrowed(alloc, &buffer, pieces, &Feeding::Pushes)?)?;
-    returned.append_other(borrowed(alloc, &buffer, pieces, &Feeding::Bytes)?)?;
-    returned.append_other(heapless(alloc, &buffer, pieces, &Feeding::Pushes)?)?;
-    returned.append_other(heapless(alloc, &buffer, pieces, &Feeding::Bytes)?)?;
+    let mut returned = owned(alloc, &buffer, chunks, &Feeding::Pushes)?;
+    returned.append_other(owned(alloc, &buffer, chunks, &Feeding::Bytes)?)?;
+    returned.append_other(borrowed(alloc, &buffer, chunks, &Feeding::Pushes)?)?;
+    returned.append_other(borrowed(alloc, &buffer, chunks, &Feeding::Bytes)?)?;
+    returned.append_other(heapless(alloc, &buffer, chunks, &Feeding::Pushes)?)?;
+    returned.append_other(heapless(alloc, &buffer, chunks, &Feeding::Bytes)?)?;
     // `push` and single bytes have a result for the zero that ends a piece and, from the first byte that doesn't fit
     // the buffer on, for each byte of the piece. `feed_piece` has a result only for this zero. So the results of
     // `feed_piece` are compared with the results of single bytes for zeros (`ends`).
-    let ends = owned(alloc, &buffer, pieces, &Feeding::Zeros)?;
-    returned.append_unlike(&ends, owned(alloc, &buffer, pieces, &Feeding::Pieces)?)?;
-    returned.append_unlike(&ends, borrowed(alloc, &buffer, pieces, &Feeding::Pieces)?)?;
-    returned.append_unlike(&ends, heapless(alloc, &buffer, pieces, &Feeding::Pieces)?)?;
-    returned.append_unlike(&ends, by_bytes(alloc, &buffer, pieces)?)?;
+    let ends = owned(alloc, &buffer, chunks, &Feeding::Zeros)?;
+    returned.append_unlike(&ends, owned(alloc, &buffer, chunks, &Feeding::Pieces)?)?;
+    returned.append_unlike(&ends, borrowed(alloc, &buffer, chunks, &Feeding::Pieces)?)?;
+    returned.append_unlike(&ends, heapless(alloc, &buffer, chunks, &Feeding::Pieces)?)?;
+    returned.append_unlike(&ends, by_bytes(alloc, &buffer, chunks)?)?;
     Ok(returned)
 }
 
@@ -135,31 +135,31 @@ pub fn decoder(alloc: Global, arguments: &[&str]) -> Result<CallResult, CaseFaul
 fn owned(
     alloc: Global,
     buffer: &[u8],
-    pieces: &[&str],
+    chunks: &[&str],
     feeding: &Feeding,
 ) -> Result<CallResult, CaseFault> {
     let mut decoder = CobsDecoderOwned::new(alloc, buffer.len())?;
     write_over(decoder.dest_mut(), buffer);
-    given(alloc, &mut decoder, pieces, feeding)
+    given(alloc, &mut decoder, chunks, feeding)
 }
 
 /// Runs a decoder that borrows its buffer.
 fn borrowed(
     alloc: Global,
     buffer: &[u8],
-    pieces: &[&str],
+    chunks: &[&str],
     feeding: &Feeding,
 ) -> Result<CallResult, CaseFault> {
     let mut dest = Vec::from_slice(alloc, buffer)?;
     let mut decoder = CobsDecoder::new(&mut dest);
-    given(alloc, &mut decoder, pieces, feeding)
+    given(alloc, &mut decoder, chunks, feeding)
 }
 
 /// Calls [`in_itself`] for the length of the buffer. Returns `Malformed` if this length isn't in the list.
 macro_rules! of_length {
-    ($($len:literal)*; $alloc:expr, $buffer:expr, $pieces:expr, $feeding:expr) => {
+    ($($len:literal)*; $alloc:expr, $buffer:expr, $chunks:expr, $feeding:expr) => {
         match $buffer.len() {
-            $($len => in_itself::<$len>($alloc, $buffer, $pieces, $feeding),)*
+            $($len => in_itself::<$len>($alloc, $buffer, $chunks, $feeding),)*
             _ => Err(CaseFault::Malformed),
         }
     };
@@ -169,13 +169,13 @@ macro_rules! of_length {
 fn heapless(
     alloc: Global,
     buffer: &[u8],
-    pieces: &[&str],
+    chunks: &[&str],
     feeding: &Feeding,
 ) -> Result<CallResult, CaseFault> {
     of_length!(
         0 1 2 3 4 5 6 7 16 17 32 128 129 200 252 253 254 255 299 506 507 508
         8192 8193 8194 8499 8500 8501 65_535 65_536 70_000;
-        alloc, buffer, pieces, feeding
+        alloc, buffer, chunks, feeding
     )
 }
 
@@ -183,21 +183,21 @@ fn heapless(
 fn in_itself<const N: usize>(
     alloc: Global,
     buffer: &[u8],
-    pieces: &[&str],
+    chunks: &[&str],
     feeding: &Feeding,
 ) -> Result<CallResult, CaseFault>
     requires { N ≤ MAX_BYTES }
 {
     let mut decoder = CobsDecoderHeapless::<N>::new();
     write_over(decoder.dest_mut(), buffer);
-    given(alloc, &mut decoder, pieces, feeding)
+    given(alloc, &mut decoder, chunks, feeding)
 }
 
 /// Runs a [`ByBytes`], which uses the `feed_piece` that the trait `FrameDecoder` provides.
-fn by_bytes(alloc: Global, buffer: &[u8], pieces: &[&str]) -> Result<CallResult, CaseFault> {
+fn by_bytes(alloc: Global, buffer: &[u8], chunks: &[&str]) -> Result<CallResult, CaseFault> {
     let mut decoder = CobsDecoderOwned::new(alloc, buffer.len())?;
     write_over(decoder.dest_mut(), buffer);
-    given(alloc, &mut ByBytes { decoder }, pieces, &Feeding::Pieces)
+    given(alloc, &mut ByBytes { decoder }, chunks, &Feeding::Pieces)
 }
 
 /// Overwrites a slice with bytes of the same length. If the lengths differ, does nothing.
@@ -207,23 +207,23 @@ fn write_over(dest: &mut [u8], bytes: &[u8]) {
     }
 }
 
-/// Passes each chunk of the stream (`pieces`) to a decoder, and resets the decoder for the word `reset`. Returns the
+/// Passes each chunk of the stream (`chunks`) to a decoder, and resets the decoder for the word `reset`. Returns the
 /// decoder's buffer at the end, and then each message and error.
 fn given<D: Streaming>(
     alloc: Global,
     decoder: &mut D,
-    pieces: &[&str],
+    chunks: &[&str],
     feeding: &Feeding,
 ) -> Result<CallResult, CaseFault> {
     let mut events = CallResult::new(alloc);
     let mut taken = 0usize;
-    'by_piece: for piece in pieces {
-        if *piece == "reset" {
+    'by_chunk: for chunk in chunks {
+        if *chunk == "reset" {
             decoder.restart();
         } else {
-            let bytes = bytes_of(alloc, piece)?;
+            let bytes = bytes_of(alloc, chunk)?;
             match feeding {
-                Feeding::Pushes => push_piece(decoder, &bytes, taken, &mut events)?,
+                Feeding::Pushes => push_chunk(decoder, &bytes, taken, &mut events)?,
                 Feeding::Bytes => feed_bytes(decoder, &bytes, taken, true, &mut events)?,
                 Feeding::Zeros => feed_bytes(decoder, &bytes, taken, false, &mut events)?,
                 Feeding::Pieces => feed_pieces(decoder, &bytes, taken, &mut events)?,
@@ -239,15 +239,15 @@ fn given<D: Streaming>(
 
 /// Pushes a chunk of the stream. A push stops at a message or an error, so the bytes that it hasn't consumed are pushed
 /// again. Each push consumes at least one byte, if there is one. `taken` is the number of bytes before this chunk.
-fn push_piece<D: Streaming>(
+fn push_chunk<D: Streaming>(
     decoder: &mut D,
-    piece: &[u8],
+    chunk: &[u8],
     taken: usize,
     events: &mut CallResult,
 ) -> Result<(), CaseFault> {
-    let mut left = piece;
+    let mut left = chunk;
     let mut taken = taken;
-    'by_push: for _ in 0..piece.len() {
+    'by_push: for _ in 0..chunk.len() {
         let (consumed, fed) = match decoder.push_bytes(left) {
             Ok(None) => (left.len(), Ok(None)),
             Ok(Some(report)) => (report.parsed_size(), Ok(Some(report.frame_size()))),
@@ -264,13 +264,13 @@ fn push_piece<D: Streaming>(
 /// results for zeros. `taken` is the number of bytes before this chunk.
 fn feed_bytes<D: Streaming>(
     decoder: &mut D,
-    piece: &[u8],
+    chunk: &[u8],
     taken: usize,
     all: bool,
     events: &mut CallResult,
 ) -> Result<(), CaseFault> {
     let mut taken = taken;
-    'by_byte: for byte in piece {
+    'by_byte: for byte in chunk {
         taken = taken.saturating_add(1);
         let fed = decoder.feed_byte(*byte);
         if all || *byte == 0 {
@@ -328,16 +328,16 @@ fn say_event(
     Ok(())
 }
 
-/// Runs `decode_stream` on each chunk of a stream (`pieces`), and returns the outcomes of the stream.
+/// Runs `decode_stream` on each chunk of a stream (`chunks`), and returns the outcomes of the stream.
 pub fn decode_stream(alloc: Global, arguments: &[&str]) -> Result<CallResult, CaseFault> {
-    let [room, pieces @ ..] = arguments else {
+    let [room, chunks @ ..] = arguments else {
         return Err(CaseFault::Malformed);
     };
     let mut buffer = buffer_of(alloc, room)?;
     let mut decoder = CobsDecoder::new(&mut buffer);
     let mut returned = CallResult::new(alloc);
-    'by_piece: for piece in pieces {
-        let bytes = bytes_of(alloc, piece)?;
+    'by_chunk: for chunk in chunks {
+        let bytes = bytes_of(alloc, chunk)?;
         let outcomes = cobs::decode_stream(alloc, &mut decoder, &bytes)?;
         'by_outcome: for outcome in &outcomes {
             returned.say_outcome(outcome)?;

@@ -1,8 +1,9 @@
-//! The examples in the documentation of the calls of `cobs` that decode a whole frame, of its state machine and of its
-//! errors, as tests.
+//! The examples in the documentation of `cobs`, as tests: of the calls that decode a whole frame, of the searches for
+//! zeros, of the state machine `DecoderState`, and of the errors.
 //!
-//! Everything below the imports is written by `tests/docs.py --write` from the doc comments of
-//! `crates/cobs/src/error.rt` and `dec/`. To change an example, change it there.
+//! Everything below the imports is written by `tests/docs.py --write` from the doc comments of `error.rt` and
+//! `find.rt`, and of `each.rt`, `forms.rt`, `in_place.rt`, `kind.rt`, `state.rt` and `whole.rt` in `dec/`, all in
+//! `crates/cobs/src`. To change an example, change its doc comment.
 
 use cobs::{
     CobsDecoder, DecodeError, DecodeResult, DecodeVecError, DecoderState, DecodingResult,

@@ -3,8 +3,8 @@
 use Rattle.std.proofs.Common.{◌≡◌, ◌==◌, ℕ, Bool, true, false, cond, List, [], ◌∷◌, ◌++◌, refl}
 use Rattle.cobs_live.specs.Watched.{begun, skips_on}
 
--- the bytes of `t ++ u` that aren't skipped: those of t, and then those of u; if bytes are still skipped after t, the
--- bytes of u up to its first zero are skipped
+-- the bytes of `t ++ u` that aren't skipped are those of t, followed by those of u. If bytes are still skipped after t,
+-- the bytes of u up to and including its first zero are skipped, or all its bytes if it has no zero.
 pub begun-append : (skipping : Bool) (t u : List ℕ) → begun skipping (t ++ u) ≡ begun skipping t ++ begun (skips_on skipping t) u
 begun-append false t u = refl
 begun-append true [] u = refl
@@ -22,7 +22,7 @@ skips_on-append true (byte ∷ bytes) u = elim (byte == 0) as (λ zero. cond zer
   | false ↦ skips_on-append true bytes u
 ]
 
--- without a byte, it doesn't change whether bytes are skipped
+-- after no bytes, bytes are skipped if and only if they were skipped before
 pub skips_on-none : (skipping : Bool) → skips_on skipping [] ≡ skipping
 skips_on-none true = refl
 skips_on-none false = refl

@@ -7,8 +7,8 @@ use Rattle.cobs_live.specs.declared.crc.Crc.{Crc}
 use Rattle.cobs_live.specs.declared.crc.Crc.TheVariants.{Crc8, Crc16CcittFalse, Crc16Modbus, Crc16Xmodem, Crc16Kermit, Crc16Arc, Crc32c, Crc32}
 use Rattle.cobs_live.specs.declared.crc.Params.{Params}
 
--- the rows of the catalogue. A register has 32 bits. A polynomial or an initial value with fewer bits is in the high
--- bits.
+-- the row of the catalogue for each check that has a name. A register has 32 bits. A polynomial or an initial value
+-- with fewer bits is in the high bits.
 abbrev pub params_of : Crc → Params
 params_of Crc8 = record { size = 1; poly = 0x07 * 2 ^ 24; init = 0; reflected = false; xorout = 0 }
 params_of Crc16CcittFalse = record { size = 2; poly = 0x1021 * 2 ^ 16; init = 0xFFFF * 2 ^ 16; reflected = false; xorout = 0 }
@@ -20,7 +20,7 @@ params_of Crc32c = record { size = 4; poly = 0x1EDC6F41; init = 0xFFFFFFFF; refl
 params_of Crc32 = record { size = 4; poly = 0x04C11DB7; init = 0xFFFFFFFF; reflected = true; xorout = 0xFFFFFFFF }
 
 -- a step of the division by a polynomial: the register is shifted, and if the bit that is shifted out is a one, the
--- polynomial is subtracted
+-- polynomial is subtracted, which is an XOR here
 abbrev pub shifted : ℕ → ℕ → ℕ
 shifted poly r = if nat_lt r (2 ^ 31) then 2 * r else bit_xor (2 * r - 2 ^ 32) poly
 

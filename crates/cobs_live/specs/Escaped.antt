@@ -11,8 +11,8 @@ use Rattle.unicode.specs.GeneralCategory.{general_category, general_category_num
 abbrev pub is_unseen : ℕ → Bool
 is_unseen c = (general_category_number (general_category c) == 25) || ((general_category_number (general_category c) == 26) || ((general_category_number (general_category c) == 23) || (general_category_number (general_category c) == 24)))
 
--- whether a character is hidden: a terminal may act on it, or it is invisible; the hidden ASCII characters are the
--- control characters
+-- whether a character is hidden: it is a control character, or one of the characters that `is_unseen` lists. Below 127,
+-- only the control characters, which are below 32, are hidden.
 abbrev pub is_hidden : ℕ → Bool
 is_hidden c = if nat_lt c 127 then nat_lt c 32 else is_unseen c
 

@@ -20,7 +20,9 @@ use Rattle.cobs_live.specs.declared.shown.View.{View}
 use Rattle.cobs_live.specs.declared.tally.Tally.{Tally}
 
 -- the state of a run between two reads: the text of each piece that ended in the bytes read so far has been written,
--- and the decoder has consumed all of these bytes that aren't skipped
+-- and the decoder has consumed all of these bytes that aren't skipped. `from` and `to` are the bytes that the input had
+-- at the start of the run and has now, if they are known; `before` and `after` are the text in the output at these two
+-- times.
 pub record HasShownSoFar (settings : Settings) (from to before after : Option (List ℕ)) (watch : Watch) : Type 0 where
   pub ended : HasWritten (shown_lines settings) from to before after
   pub taken : DecoderAfter watch.message.items (phase_of watch.decoder) (unended (open_stream settings ended.gone ended.bytes))

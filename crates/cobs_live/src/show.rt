@@ -129,6 +129,7 @@ impl<'a> Watch<'a> {
     /// # Errors
     /// Returns `AllocError` if there isn't enough memory for a message of the greatest length.
     pub fn new(alloc: Global, settings: &'a Settings) -> Result<Self, AllocError>
+        // Whatever the input and the output are: nothing of the input has been read, and nothing has been written.
         ensures start { IfOk result (λ watch. (from before : Option (List ℕ)) →
             HasShownSoFar settings.now from from before before watch) }
     {

@@ -169,7 +169,7 @@ fn rejected(error: &DecodeError) -> CallResult {
 pub fn fed(returned: Result<Option<usize>, DecodeError>) -> CallResult {
     match returned {
         Ok(None) => CallResult::Nothing,
-        Ok(Some(count)) => CallResult::Length(count),
+        Ok(Some(len)) => CallResult::Length(len),
         Err(error) => rejected(&error),
     }
 }

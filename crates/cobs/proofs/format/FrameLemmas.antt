@@ -53,7 +53,7 @@ parts-some (c ∷ p) some = grind (arith, parts_after-some)
 pub last_of-cons : (xs : List ℕ) (more : List (List ℕ)) → more ≢ [] → last_of (xs ∷ more) ≡ last_of more
 last_of-cons xs more h = grind arith
 
--- the last list of xs and ys, end to end, is the last list of ys
+-- if ys isn't empty, the last list of `xs ++ ys` is the last list of ys
 pub last_of-append : (xs ys : List (List ℕ)) → 0 < length ys → last_of (xs ++ ys) ≡ last_of ys
 last_of-append [] ys some = refl
 last_of-append (x ∷ xs) ys some = grind (arith, length-append xs ys, last_of-append xs ys some)

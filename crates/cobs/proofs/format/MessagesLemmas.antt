@@ -41,7 +41,8 @@ messages_in-more vectors i d within = grind (arith, common_steps)
 pub room-some : (vectors : List (Vec ℕ)) (i : ℕ) → room_for_frames (messages_in (take i vectors)) ≤ room_for_frames (messages_in vectors)
 room-some vectors i = rw take-map at (sum_by-take-le (λ m. max_encoded_len (length m) + 1) (messages_in vectors) i)
 
--- vector i adds the longest frame of its message's length, and a zero, to the room
+-- for vector i, the room grows by the length of the longest frame of a message as long as its message, and by one byte
+-- for the zero
 pub room-step : (vectors : List (Vec ℕ)) (i : ℕ) (vector : Vec ℕ) → i < length vectors → vector ≡ get_or vectors i vector
     → room_for_frames (messages_in (take (i + 1) vectors)) ≡ room_for_frames (messages_in (take i vectors)) + (max_encoded_len (length vector.items) + 1)
 room-step vectors i vector within is = grind (arith, common_steps)

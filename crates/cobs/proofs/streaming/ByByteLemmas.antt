@@ -33,6 +33,7 @@ nil_alike xs h = grind arith
 
 -- before the first byte, `TakesPiece` holds, and nothing has changed
 pub piece-nothing : (buffer : List ℕ) (phase : Phase) → TakesPiece buffer phase [] None buffer phase
+-- no piece has ended, so the fields about the end of a piece say nothing (`tt`)
 piece-nothing buffer phase = record {
   takes = takes-nothing buffer phase;
   ends = tt;
@@ -96,13 +97,14 @@ module _ {buffer₀ buffer buffer' : List ℕ} {phase₀ phase phase' : Phase} {
   pub holds_behind : (p : List ℕ) → DecoderAfter buffer₀ phase₀ p → buffer' ≡ overwritten buffer₀ (output (last_piece (p ++ take (i + 1) bytes)))
   holds_behind p h = grind (arith, overwritten-is, begins_behind, untouched_behind)
 
-  -- the first i + 1 bytes are fed, and the outcome that this byte reports is the only one
+  -- the first i + 1 bytes are fed; their only outcome is the one that this byte reports, if it reports one
   pub takes_behind : TakesBytes buffer₀ phase₀ (take (i + 1) bytes) (reported_by (get_or bytes i 0) result buffer') buffer' phase'
   -- the first i bytes, and then one byte more (`TakesBytes-byte`)
   takes_behind = rw (take_more bytes i 0 inside) (takes-more t.takes (TakesBytes-byte f))
 
   -- if this byte ends no piece, no piece has ended in the first i + 1 bytes
   pub piece-more : (get_or bytes i 0 ≡ 0 → end_reported result ≡ None) → TakesPiece buffer₀ phase₀ (take (i + 1) bytes) None buffer' phase'
+  -- the fields about the end of a piece say nothing here either
   piece-more none = record {
     takes = rw nothing at takes_behind;
     ends = tt;

@@ -1,8 +1,9 @@
 -- The step of specs/Step.antt for one byte meets `Feeds`, the clause `feeds` of `feed` (`Feeds-step`, the main lemma).
 -- The decoder that makes these steps is called the machine. If the front p of a piece was fed before the byte, then
 -- after the step the phase is the phase after `fed p byte` (`PhaseAfter-step`), the result is the result for the byte
--- after p (`PhaseAfter-result_for`), and the buffer begins with the output (`DecoderAfter-step`). Each of these has one
--- case for each phase, and is by `PieceLemmas`, which say what one more byte changes in a piece.
+-- after p (`PhaseAfter-result_for`), and the buffer begins with the output (`DecoderAfter-step`). The lemmas
+-- distinguish whether p is empty, and whether its output fits the buffer, and use `PieceLemmas`, which says what one
+-- more byte changes in a piece.
 use Rattle.std.proofs.Common.{◌≡◌, ◌≢◌, ℕ, zero, suc, ◌+◌, ◌<◌, ◌≤◌, Bool, false, cond, leb, List, [], ◌∷◌, ◌++◌, length, take, drop, set, refl, arith, length-append, Option, None, Result, Ok, Err, add-one, inr, ◌⊎◌, true}
 use Rattle.std.proofs.lemmas.List.{take_all, take-append-le, append-nil, length_push, take_more_set, set_past, drop-set-lt, length-set}
 use Rattle.std.proofs.lemmas.List.Elements.{All-push, All-nil}
@@ -156,7 +157,8 @@ PhaseAfter-untouched : (buffer : List ℕ) (phase : Phase) (b : ℕ) (p : List �
 unfolding phase_after
 PhaseAfter-untouched buffer phase b p h nz = grind (arith, over_phase, fits_phase, adds_same, drop-set-lt, length_push)
 
--- an idle decoder has been fed no byte of a piece, whatever its buffer contains
+-- an idle decoder has been fed no byte of a piece since its last piece ended: the front is empty, whatever the buffer
+-- contains
 pub DecoderAfter-idle : (buffer : List ℕ) (phase : Phase) → phase ≡ Idle → DecoderAfter buffer phase []
 unfolding phase_after
 DecoderAfter-idle buffer phase e = grind (arith, output-nil, begins-nil)

@@ -102,7 +102,7 @@ module _ {source old new : List ℕ} {at left written : ℕ} {full : Bool} (s : 
     read-more : {new' : List ℕ} {full' : Bool} {left' written' : ℕ} → new' ≡ next_buffer new (Within full left written) byte
         → Within full' left' written' ≡ next_phase (length new) (Within full left written) byte → written' ≤ length new' → IsRead source old (at + 1) new' full' left' written'
     read-more buffer next room =
-        -- this byte is the next one of the source without its leading zeros
+        -- after the first n bytes, this byte is the next one of the source without its leading zeros
         let last : take 1 (drop s.n (rest source)) ≡ byte ∷ [] = grind (arith, drop-drop, drop_more) in
         record {
           n = s.n + 1;
@@ -122,7 +122,8 @@ module _ {source old new : List ℕ} {at left written : ℕ} {full : Bool} (s : 
     no-room adds past = grind (arith, open-byte, ne_eqb, le-ltb)
 
     -- The byte adds a byte to the output: the byte itself, or the zero before a code. If the buffer is full, the result
-    -- is `TooLong`, with the number of bytes up to the end of the piece.
+    -- is `TooLong`, with the number of bytes of the source up to and including the zero that ends the piece, or of all
+    -- bytes if there is none.
     pub over : (left ≡ 0 → full ≡ false) → length new ≤ written → {count : ℕ} → count ≡ min (length source) (at + 1 + length (head (drop (at + 1) source)) + 1)
         → Ended source old new (Some (ends.TooLong, count))
     over adds past {count} counted =

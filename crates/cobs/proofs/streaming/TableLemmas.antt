@@ -86,12 +86,13 @@ StateAfter-end state p so_far m s = let h = complete p m s.piece s.bytes in grin
 
 -- THE PHASES OF A STREAMING DECODER
 
--- the machine's phase after a code b, or after a zero, corresponds to the table's state after b
+-- if a byte b comes where a code may come, the machine's next phase corresponds to the table's next state; a zero ends
+-- the piece
 coded : (n b count : ℕ) → state_in (cond (eqb b 0) phases.Idle (Within (eqb b 255) (b - 1) count)) ≡ Some (cond (eqb b 0) Idle (opened_by b))
 coded n b count = grind arith
 
--- the field `returned` of `FeedsByTable`: the machine's result is that of the table, or the table's result has a byte
--- of data for which the buffer has no room
+-- the field `returned` of `FeedsByTable`: the machine's result is that of the table, or it is `TargetBufTooSmall`, and
+-- the buffer has no room for the written bytes together with the byte of data that the table's result may have
 returned_by_table : (n : ℕ) (phase : Phase) (b : ℕ) (state : DecoderState) → state_in phase ≡ Some state
     → let stated = table_result state b in
     (next_result n phase b ≡ counted (written_in phase) stated) ⊎ ((next_result n phase b ≡ Err TargetBufTooSmall) × (n < written_in phase + length (data_of stated)))

@@ -33,7 +33,8 @@ module _ {N : ℕ} where
   with_heapless_buffer decoder bytes = record decoder { dest = refilled decoder.dest bytes; filled = filled_again decoder bytes }
 
 -- the lender lends its buffer: when the loan ends, the buffer has the bytes that the caller left in it, and the rest of
--- the lender is as it was
+-- the lender is unchanged. R is the *row* of the lender's type: the description of this type with which the prover
+-- works (`borrowed_row`, `owned_row`, `heapless_row`).
 abbrev pub LendsBytes : (R : RattleType) → MutBor R.Denot → MutBor (List ℕ) → (R.Denot → List ℕ → R.Denot) → Fml
 LendsBytes R lender bytes with_bytes = Lends R (Array u8 0) lender bytes (with_bytes lender.now)
 
@@ -45,6 +46,6 @@ LendsSlice decoder bytes = LendsBytes (borrowed_row (record { mir = named 1; lft
 abbrev pub LendsOwned : MutBor CobsDecoderOwned → MutBor (List ℕ) → Fml
 LendsOwned decoder bytes = LendsBytes owned_row decoder bytes with_owned_buffer
 
--- `LendsBytes` for a `CobsDecoderHeapless`
+-- `LendsBytes` for a `CobsDecoderHeapless`; N stands for the type parameter `N`, and `value_of N` is its number
 abbrev pub LendsHeapless : (N : RattleType) → MutBor (CobsDecoderHeapless (value_of N)) → MutBor (List ℕ) → Fml
 LendsHeapless N decoder bytes = LendsBytes (heapless_row N) decoder bytes with_heapless_buffer

@@ -1,4 +1,5 @@
-//! Encodes byte by byte: the step for one byte of the message, and a loop over the bytes of a push.
+//! Encodes byte by byte: the step for one byte of the message, a call for a few bytes without a branch for each byte
+//! (`push_few`), and a loop over the bytes of a push.
 ghost use Rattle.std.specs.Prelude.{◌≡◌, ◌<◌, ◌≤◌, ◌+◌, ◌++◌, ◌↔◌, [], ◌∷◌, ℕ, List, length, drop, IsOk, IsTrue, IfOk, OnOk, OnErr, false};
 ghost use Rattle.cobs.specs.Length.{encoded_len};
 ghost use Rattle.cobs.specs.OpenBlock.{CobsEncoderAfter, HasRoomFor, IsFewFor, IsPlaceIn, end_after, end_of};
@@ -192,7 +193,8 @@ impl UnbufferedEncoder {
         ensures refused { OnErr result ((dest.new ≡ dest.old) × (self.new ≡ self.old)) }
         ensures empty { bytes.now ≡ [] → (dest.new ≡ dest.old) × (self.new ≡ self.old) }
     {
-        // An open block has at most 253 bytes; `taken` is greater only if the caller has changed the encoder's numbers.
+        // An open block has at most 253 bytes after its code; `taken` is greater only if the caller has changed the
+        // encoder's numbers.
         if 253 < self.taken || dest.len() < self.index {
             return Err(DestBufTooSmallError);
         }
@@ -233,7 +235,7 @@ impl UnbufferedEncoder {
                 next += 1;
                 left -= 1;
             }
-            // A zero ends the open block. The 254th nonzero byte of the block ends it too.
+            // A zero ends the open block, and so does the 254th byte after the block's code.
             if byte == 0 || left == 0 {
                 dest[index] = (next - index) as u8;
                 index = next;

@@ -219,11 +219,11 @@ pub fn law_20()
 
 /// A loop over the pieces of a stream.
 ///
-/// Assume that an idle decoder decodes the first piece of a stream with `feed_piece`. The *rest* of the stream consists
-/// of the bytes after the zero that ends this piece. The outcomes of the stream are the outcome of the first piece,
-/// followed by the outcomes of the rest. The unended bytes of a stream are the bytes after its last zero, or all bytes
-/// if it has no zero. The whole stream has the same unended bytes as the rest. If no piece ends, the stream has no
-/// outcome, and the unended bytes have been fed to the decoder.
+/// Assume that a stream is passed to `feed_piece` of an idle decoder. If a piece ends, the *rest* of the stream
+/// consists of the bytes after the zero that ends it. The outcomes of the stream are then the outcome of this first
+/// piece, followed by the outcomes of the rest. The unended bytes of a stream are the bytes after its last zero, or all
+/// bytes if it has no zero. The whole stream has the same unended bytes as the rest. If no piece ends, the stream has
+/// no outcome, and the unended bytes have been fed to the decoder.
 ///
 /// So the invariant of a loop over `feed_piece` is one equation: the outcomes found so far, followed by the outcomes of
 /// the remaining bytes, are the outcomes of the stream.

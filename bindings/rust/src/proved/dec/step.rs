@@ -13,7 +13,8 @@ pub(crate) fn joint_after(code: u8) -> u8 {
 }
 
 impl UnbufferedDecoder {
-    /// Ends the open piece at a zero, and returns the result for this zero. `len` is the buffer's length.
+    /// Ends the open piece, if there is one, at a zero, and returns the result for this zero. `len` is the buffer's
+    /// length.
     #[inline(always)]
     pub(crate) fn end(&mut self, len: usize) -> Result<Option<usize>, DecodeError> {
         let ended = *self;

@@ -1,5 +1,6 @@
 // Made by bindings/rust/translate.py from `crates/cobs/src/enc/step.rt`: change that file, and run it again.
-//! Encodes byte by byte: the step for one byte of the message, and a loop over the bytes of a push.
+//! Encodes byte by byte: the step for one byte of the message, a call for a few bytes without a branch for each byte
+//! (`push_few`), and a loop over the bytes of a push.
 
 use crate::proved::block::{FULL_BLOCK_BYTES, FULL_CODE};
 use crate::proved::enc::UnbufferedEncoder;
@@ -141,7 +142,8 @@ impl UnbufferedEncoder {
     /// ```
     #[inline]
     pub fn push_each(&mut self, dest: &mut [u8], bytes: &[u8]) -> Result<(), DestBufTooSmallError> {
-        // An open block has at most 253 bytes; `taken` is greater only if the caller has changed the encoder's numbers.
+        // An open block has at most 253 bytes after its code; `taken` is greater only if the caller has changed the
+        // encoder's numbers.
         if 253 < self.taken || dest.len() < self.index {
             return Err(DestBufTooSmallError);
         }
@@ -177,7 +179,7 @@ impl UnbufferedEncoder {
                 next += 1;
                 left -= 1;
             }
-            // A zero ends the open block. The 254th nonzero byte of the block ends it too.
+            // A zero ends the open block, and so does the 254th byte after the block's code.
             if byte == 0 || left == 0 {
                 dest[index] = (next - index) as u8;
                 index = next;

@@ -105,7 +105,8 @@ by_piece-preserved c =
 -- THE END of the stream: the line for an unfinished piece is added, if there is one, and the text is the whole report
 pub returns-in-Ok-End : goal.returns-in-Ok-End
 returns-in-Ok-End c =
-    -- the contract of `next_frame` for the end, which says that only the last line is still to be reported (`last`)
+    -- the contract of `next_frame` for the end, by which nothing is still to be reported, except the line for an
+    -- unfinished piece if there is one (`last`)
     let next = rw c.in-Ok-End.field-0-is at c.in-Ok-End.ensures.next in
     let last = stream_end_reported _ _ _ _ _ next c.by_piece.invariant.idle (c.in-Ok-End.ensures.len ∙ c.by_piece.invariant.buffer) in
     record {

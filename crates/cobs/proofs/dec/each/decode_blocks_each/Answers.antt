@@ -101,7 +101,7 @@ moved : (c : Joined-read-next) → let code = get_or c.by_block.buffer c.by_bloc
 moved c =
     let i = c.by_block.invariant in
     elim c.if-read-next.branch [
-      -- the loop moved the bytes of the block; this is its last byte
+      -- the loop moved the bytes of the block; `last` is the step for the last one
       | goal.then-read-next+then-read-next-2 w ↦ (let s = w.by_byte.invariant in
           let last = byte-moved _ _ c.requires.within _ _ s.left s.order s.inside (omega (arith, c.if-end-read.false)) in
           grind arith)
@@ -114,7 +114,7 @@ moved c =
 pub by_block-preserved-then-read-end : goal.by_block-preserved-then-read-end
 by_block-preserved-then-read-end c = grind (arith, moved, rest-long, block-zero)
 
--- no zero follows the block, because it is full or the last one
+-- no zero is written after the block's bytes, because the block is full or the last one
 pub by_block-preserved : goal.by_block-preserved
 by_block-preserved c = grind (arith, moved, rest-long, block-last)
 

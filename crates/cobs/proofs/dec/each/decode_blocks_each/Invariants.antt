@@ -1,4 +1,5 @@
--- The first `end` bytes h of the buffer are the frame. Its bytes from index `read` on are still to be decoded (`Left`).
+-- h is the first `end` bytes that the buffer had at the call: a piece, which may break off. Its bytes from index `read`
+-- on are still to be decoded (`Left`).
 -- Within a block, these are the block's remaining bytes and the bytes after the block (`BlockLeft`).
 use Rattle.std.proofs.Common.{◌-◌, ◌<◌, ◌≤◌, drop, take}
 use Rattle.cobs.proofs.decoding.WrittenLemmas.{BlockLeft, Left}

@@ -23,12 +23,12 @@ returns-clause-message c = grind (arith, length-map, bit_xor, take_at, decoded_h
 -- if the XORed source is a frame of m, its message is m
 pub returns-clause-reads : goal.returns-clause-reads
 returns-clause-reads c found m r =
-    -- the vector is the message of the source (`message`), and m is the message of the source too (`same`)
+    -- the vector is the message of the XORed source (`message`), and so is m (`same`)
     let message = returns-clause-message c in
     let same = (decoded_head_reads _ (xored_below _ _ c.ranges.sentinel.fits c.type_inv.source) m (frame_piece r)).1 r in
     cc
 
--- if the message is m, and the XORed source may be a frame, it is a frame of m
+-- if the vector's message is m, and the XORed source is a piece, then the XORed source is a frame of m
 pub returns-clause-only : goal.returns-clause-only
 returns-clause-only c piece m same = grind (arith, decoded_head_reads, xored_below, returns-clause-message)
 

@@ -11,7 +11,7 @@ use Rattle.cobs.proofs.encoding.RoomLemmas.{counted, skipped}
 use Rattle.cobs.proofs.enc.room.fits.Goals.{After-position_or_len-more}
 use Rattle.cobs.proofs.enc.room.fits.Goals as goal
 
--- the frame has at least as many bytes as the source, and the buffer has fewer
+-- from the open block on, the frame has at least as many bytes as the source, and the buffer has room for fewer
 pub returns-then-room-source-clause-fits : goal.returns-then-room-source-clause-fits
 returns-then-room-source-clause-fits c = grind (arith, counted)
 
@@ -28,18 +28,21 @@ returns-then-spare-held-clause-fits c = grind (arith, len-end, joined (goal.at.r
 pub returns-then-read-source-clause-fits : goal.returns-then-read-source-clause-fits
 returns-then-read-source-clause-fits c = grind (arith, len-end, joined (goal.at.returns-then-read-source-clause-fits c).After-position_or_len-more)
 
--- then the run is the first run of the source, unless bytes were read before it
+-- here too, the `Some` has the length of the source's first run, or 0: if no byte was read before this run, it is the
+-- first run; otherwise the invariant says so
 pub returns-then-read-source-clause-run : goal.returns-then-read-source-clause-run
 returns-then-read-source-clause-run c = grind (arith, common_steps)
 
--- a zero ends the run
+-- If a zero ends the run, the frame from its open block on consists of: the run and its first code; one more code for
+-- each full block of the run; and the frame from the open block that begins at this zero.
 stopped : (c : After-position_or_len-more) → c.by_run.read + c.position_or_len-more.result < length c.args.source.now
     → open_len (c.by_run.run + 1) (drop c.by_run.read c.args.source.now)
     ≡ c.by_run.run + 1 + c.position_or_len-more.result + (c.by_run.run + c.position_or_len-more.result) / 254
     + open_len 1 (drop (c.by_run.read + c.position_or_len-more.result + 1) c.args.source.now)
 stopped c more = grind (arith, take_rest, get_or-drop, joined, len-zero)
 
--- the numbers of full blocks don't overflow, because the length of the frame is bounded (`open_len-most`)
+-- the sums of `held` and the numbers of full blocks don't overflow, because the length of the frame is bounded
+-- (`open_len-most`, which is in the rule set `counted`)
 pub overflow_add-held : goal.overflow_add-held
 overflow_add-held c = grind (arith, counted)
 
