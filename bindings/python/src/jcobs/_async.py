@@ -141,7 +141,7 @@ class AsyncFrameReader(Frames):
     async def _take_by_a_task(self, timeout: float) -> Optional[bytes]:
         """Implements `_take_within` for asyncio.
 
-        `asyncio.wait_for` isn't used, because up to Python 3.11 it would swallow a cancellation.
+        `asyncio.wait_for` isn't used, because in Python 3.11 and older versions it can swallow a cancellation.
         """
         import asyncio
 
