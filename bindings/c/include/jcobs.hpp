@@ -248,8 +248,8 @@ class receiver
     }
 
     // Decodes the next bytes of the stream. For each message whose frame ends in these bytes, calls on_message(view).
-    // For each broken frame that ends in these bytes, and each frame whose message is too long for the buffer, calls
-    // on_error(jcobs_answer). A message is in the buffer while on_message runs; after that, the next frame may
+    // For each broken frame that ends in these bytes, and for each frame whose message is too long for the buffer,
+    // calls on_error(jcobs_answer). A message is in the buffer while on_message runs; after that, the next frame may
     // overwrite the message.
     //
     // The member consumed of the jcobs_answer counts only bytes of this push. If an earlier frame ended in this push,

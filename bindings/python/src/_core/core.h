@@ -15,8 +15,8 @@
 
 /* These macros call functions of CPython to change reference counts. CPython 3.12 shares immortal objects between
  * interpreters. The macros in the headers of earlier versions don't know about immortal objects, and change every
- * reference count inline. So with those macros, if each interpreter has its own GIL, two threads could change the count
- * of an immortal object at once. */
+ * reference count inline. So with those macros, two threads could change the count of an immortal object at once, if
+ * their interpreters have GILs of their own. */
 #undef Py_INCREF
 #undef Py_DECREF
 #undef Py_XDECREF

@@ -49,9 +49,9 @@ def alone(what: str, use: Optional[str] = None) -> Callable[[_Method], _Method]:
     Methods with different values of `use` may run at the same time. The object must have a dictionary `_calls`, which
     is empty at first.
 
-    The finally clause makes no calls, because CPython 3.11 and later versions run signal handlers after calls. In older
-    versions, and on PyPy, a signal handler may raise an exception even inside the finally clause. In this case the next
-    call finds out that this call has ended.
+    The finally clause makes no calls: CPython 3.11 and later versions run signal handlers after calls, so none runs
+    inside this clause. In older versions, and on PyPy, a signal handler may raise an exception even inside the finally
+    clause. In this case the next call finds out that this call has ended.
     """
     use = use or what
 

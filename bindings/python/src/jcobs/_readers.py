@@ -172,7 +172,7 @@ class FrameReader(Frames):
     line, don't become part of the first frame.
 
     One thread may read while another thread writes. While a call that reads is running, other calls that read raise
-    RuntimeError. While a call that writes is running, other calls that write raise this error too.
+    RuntimeError. While a call that writes is running, other calls that write raise RuntimeError too.
 
     >>> import io
     >>> reader = jcobs.FrameReader(io.BytesIO(b"\\x03hi\\x00\\x06hello\\x00\\x05by"))
