@@ -41,7 +41,7 @@ def keep(kept: Kept, read: Callable[[int], Optional[bytes]], size: int, in_pytho
 
     If `read` is written in C, no bytecode runs after the read and before the bytes are appended. So even if a signal
     handler raises an exception, no byte that was read is lost. If `read` is written in Python (`in_python`), and an
-    exception interrupts it, it may have lost bytes. In this case `GAP` is appended.
+    exception interrupts `read`, bytes may be lost. In this case `GAP` is appended.
     """
     try:
         kept.extend(map(read, (size,)))  # type: ignore[arg-type]
