@@ -35,9 +35,10 @@
 //         sender.reset();
 //     }
 //
-// jcobs.h describes the members status, consumed and length of the jcobs_answer that a call returns. The preconditions
-// of jcobs.h apply here too, except those about lengths, because a view contains its length. For example, the input and
-// the buffer of a call must not overlap, and nothing else may change them while the call runs.
+// jcobs.h describes the members status, consumed and length of the jcobs_answer that a call returns. A view contains
+// its length, so the preconditions of jcobs.h about lengths don't apply here. The other preconditions of jcobs.h do:
+// for example, the input and the buffer of a call must not overlap, and nothing else may change them while the call
+// runs.
 #ifndef JCOBS_HPP
 #define JCOBS_HPP
 
@@ -50,7 +51,7 @@
 #include <type_traits>
 #include <utility>
 
-// With this attribute Clang warns if a view outlives the temporary object that owns the bytes of the view.
+// With this attribute Clang warns if a view outlives the temporary object that owns the view's bytes.
 #if defined(__has_cpp_attribute)
 #if __has_cpp_attribute(gsl::Pointer)
 #define JCOBS_POINTER [[gsl::Pointer]]
@@ -66,8 +67,9 @@ namespace jcobs
 namespace detail
 {
 
-// Says whether the elements of a range are contiguous and one byte long each. Their type doesn't matter, but for an
-// array of char the value is false, because the '\0' at the end of the array would be one of the bytes.
+// Says whether a range has contiguous elements of one byte each. These elements must be trivially copyable, and if Byte
+// isn't const, they must not be const either. For an array of char the value is false, because the '\0' at the end of
+// the array would be one of the bytes.
 template <class Range, class Byte, class = void> struct is_bytes : std::false_type {
 };
 template <class Range, class Byte>
@@ -81,9 +83,9 @@ struct is_bytes<
                                                                 std::is_same_v<std::remove_const_t<element>, char>);
 };
 
-// Says whether a range is a temporary object that owns its bytes. Such bytes are destroyed with the object. A type owns
-// its bytes, as containers do, if the bytes of a const object of this type are const too. A view for writing owns no
-// bytes: even if the view is const, its bytes aren't.
+// Says whether a range is a temporary object that owns its bytes, which are destroyed with the object. A container owns
+// its bytes, and the bytes of a const container are const. So a range is taken for an owner if a const range of the
+// same type has const bytes. A view for writing isn't an owner: even if the view is const, its bytes aren't.
 template <class Range, class = void> struct is_temporary : std::false_type {
 };
 template <class Range>
@@ -150,7 +152,7 @@ template <class Byte> class JCOBS_POINTER basic_view
 using view = basic_view<const unsigned char>; // bytes that a function reads
 using buffer = basic_view<unsigned char>;     // bytes that a function writes
 
-// Returns the greatest length that the frame of a message of message_len bytes can have, not counting a sentinel.
+// Returns the length of the longest frame that a message of message_len bytes can have, not counting a sentinel.
 // Returns 0 if this length doesn't fit a size_t.
 [[nodiscard]] constexpr std::size_t max_length(std::size_t message_len) noexcept
 {
@@ -189,7 +191,7 @@ constexpr std::size_t max_overhead(std::size_t message_len) noexcept
     return jcobs_encode_in_place(bytes.data(), bytes.size(), message_len);
 }
 
-// Decodes the first frame of the source to the front of a buffer. Leading zeros are skipped.
+// Decodes the first frame of the source, and writes the message to the front of a buffer. Leading zeros are skipped.
 [[nodiscard]] inline jcobs_answer decode(view source, buffer message) noexcept
 {
     return jcobs_decode(source.data(), source.size(), message.data(), message.size());
@@ -202,8 +204,8 @@ constexpr std::size_t max_overhead(std::size_t message_len) noexcept
     return jcobs_decode_with_sentinel(source.data(), source.size(), message.data(), message.size(), sentinel);
 }
 
-// Decode the frame at the front of a buffer in place. The frame was encoded with the sentinel 0 or with the given
-// sentinel.
+// decode_in_place decodes the frame at the front of a buffer, and writes the message to the front of the same buffer.
+// The frame was encoded with the sentinel 0 or with the given sentinel.
 [[nodiscard]] inline jcobs_answer decode_in_place(buffer bytes) noexcept
 {
     return jcobs_decode_in_place(bytes.data(), bytes.size());
@@ -213,8 +215,8 @@ constexpr std::size_t max_overhead(std::size_t message_len) noexcept
     return jcobs_decode_in_place_with_sentinel(bytes.data(), bytes.size(), sentinel);
 }
 
-// Returns whether the bytes are a frame, and whether this frame is the shortest one for its message. Pass the bytes
-// without the sentinels before and after them.
+// Returns whether the bytes are a frame, and if so, whether this frame is the shortest one for its message. Pass the
+// bytes without the sentinels before and after them.
 [[nodiscard]] inline jcobs_kind frame_kind(view bytes) noexcept
 {
     return static_cast<jcobs_kind>(jcobs_frame_kind(bytes.data(), bytes.size()));
@@ -246,11 +248,12 @@ class receiver
     }
 
     // Decodes the next bytes of the stream. For each message whose frame ends in these bytes, calls on_message(view).
-    // For each frame that ends in these bytes and is broken or too long for the buffer, calls on_error(jcobs_answer). A
-    // message is in the buffer while on_message runs; after that, the next frame may overwrite the message.
+    // For each broken frame that ends in these bytes, and for each frame whose message is too long for the buffer,
+    // calls on_error(jcobs_answer). A message is in the buffer while on_message runs; after that, the next frame may
+    // overwrite the message.
     //
-    // The member consumed of the jcobs_answer counts only bytes of this push. The count begins after the previous frame
-    // that ended in this push. If there is none, it begins at the start of the push.
+    // The member consumed of the jcobs_answer counts only bytes of this push. If an earlier frame ended in this push,
+    // the count begins after the sentinel of that frame. Otherwise it begins at the start of the push.
     //
     // If a callback throws, the push has processed the bytes up to and including the sentinel after the frame that the
     // callback was called for, and no later bytes. The receiver is then idle, and the next push begins a new frame.
@@ -288,7 +291,8 @@ class receiver
         return jcobs_decoder_feed(&decoder_, buffer_.data(), buffer_.size(), fed);
     }
 
-    // Returns whether no frame is open. A frame is open from its first byte until the sentinel that ends it.
+    // Returns whether the receiver is idle, which means that no frame is open. A frame is open from its first byte
+    // until the sentinel that ends it.
     [[nodiscard]] bool is_idle() const noexcept
     {
         return jcobs_decoder_is_idle(&decoder_) == 1;
@@ -359,8 +363,8 @@ class sender
     // finish ends the message, and returns its frame, which is encoded with the given sentinel. finish_terminated also
     // writes the sentinel after the frame, and returns the frame with the sentinel. The returned bytes are in the
     // buffer until the next push, feed or finish. If these bytes don't fit the buffer, the result is an empty view, and
-    // nothing has changed. You can then drop the message with reset. After the pushes, the frame without the sentinel
-    // always fits. So finish returns an empty view only if the size of the buffer is 0.
+    // nothing has changed. You can then drop the message with reset. A push succeeds only if the frame without the
+    // sentinel fits, so finish returns an empty view only if the size of the buffer is 0.
     [[nodiscard]] view finish(unsigned char sentinel = 0) noexcept
     {
         return for_sentinel(jcobs_encoder_finish(&encoder_, buffer_.data(), buffer_.size()), sentinel);
@@ -378,7 +382,7 @@ class sender
 
   private:
     // XORs each byte of the finished frame with the sentinel, and returns the frame. The bytes are XORed here, because
-    // the archives for devices don't have the calls that finish a frame with another sentinel.
+    // the archives for devices don't have the calls that finish a message with a sentinel other than 0.
     view for_sentinel(jcobs_answer answer, unsigned char sentinel) noexcept
     {
         for (std::size_t i = 0; sentinel != 0 && i < answer.length; i++)

@@ -5,7 +5,8 @@
  * COBS encodes a message, which may contain any bytes, as a frame that never contains a certain byte value: the
  * sentinel. So the sentinel can mark the end of each frame on a serial line or in a file. The sentinel is 0, except in
  * the calls that have a parameter `sentinel`. The frame of a message of up to 254 bytes is 1 byte longer than the
- * message. The frame of a longer message has at most 1 extra byte per 254 bytes of the message, rounded up.
+ * message. The frame of a longer message of n bytes is at most n / 254 bytes longer than the message, where n / 254 is
+ * rounded up.
  *
  * To receive frames in chunks of any size:
  *
@@ -72,21 +73,21 @@
  * A pointer to a state must be valid. The state may have any contents. Even if the state is corrupt, the call returns,
  * and accesses no memory outside the input, the buffer and the state. The result is still in range: consumed is at most
  * the number of bytes passed, and length is at most the buffer's size. Everything else that this header says about
- * results is true only if the state is the initial state or the state that an earlier call left.
+ * results is true only if the state is the initial state, or is as an earlier call left it.
  *
  * While a call runs, nothing else may change its input, its buffer or its state: no other thread or process, no
  * interrupt or signal handler, no DMA transfer. A call may read a byte twice. If the byte changes between the two
  * reads, the call may access memory outside the buffers, or never return. So wait until a DMA transfer into the input
  * has finished, or pass a copy of the input.
  *
- * No function allocates memory or uses a lock. No function keeps a pointer or other data after it returns, so a call
- * depends only on its arguments. Calls on different buffers and states may run at the same time, even in signal
- * handlers.
+ * No function allocates memory or uses a lock. No function keeps a pointer or other data after it returns, so the
+ * result of a call depends only on the arguments. Calls on different buffers and states may run at the same time, even
+ * in signal handlers.
  *
  * Results
  *
- * The comment below a prototype lists each status that the call can return, without the prefix JCOBS_. For each status
- * the comment gives the values of the members consumed and length:
+ * The comment below a prototype lists each status that the call can return, without the prefix JCOBS_. For each status,
+ * the comment gives the values of the other two members of jcobs_answer:
  *
  * - consumed is the number of bytes of the input (the message, the source or the pushed bytes) that the call has
  *   processed;
@@ -97,28 +98,30 @@
  * calls, the bytes that follow the result are as they were before the first of these calls. If a call with a
  * jcobs_encoder returns TOO_SMALL, the whole buffer is as it was before this call.
  *
- * A frame is a sequence of blocks. A block is a code, from 1 to 255, followed by code - 1 nonzero bytes. A block with
- * the code 255 is full. The output of a frame is the bytes that the frame decodes to. To decode a frame, take the bytes
- * after the code of each block, and put a zero between two neighbouring blocks unless the first of the two is full. A
- * broken frame is cut off inside its last block. In some calls the output of a broken frame includes the bytes of this
- * block; in other calls it doesn't. If there is a zero before this block, it belongs to the output in all calls. For
- * example, the broken frame 02 41 05 42 is cut off inside the block 05 42. If the output includes this block, it is
- * 41 00 42; otherwise it is 41 00.
+ * A frame is a sequence of blocks. The first byte of a block is its code, from 1 to 255. The code is the length of the
+ * block: a block with the code n has n - 1 nonzero bytes after the code. A block with the code 255 is full. The output
+ * of a frame is the bytes that the frame decodes to. To decode a frame, take the bytes after the code of each block.
+ * Then put a zero between the bytes of two neighbouring blocks, unless the first of these two blocks is full. A broken
+ * frame is cut off inside its last block. In some calls the output of a broken frame includes the bytes of this block;
+ * in other calls it doesn't. If decoding puts a zero before the bytes of this block, that zero belongs to the output in
+ * all calls. For example, the broken frame 02 41 05 42 is cut off inside the block 05 42. If the output includes this
+ * block, it is 41 00 42; otherwise it is 41 00.
  *
- * jcobs_decode, jcobs_decode_in_place and their forms with a sentinel don't need a sentinel after the frame. If there
- * is no sentinel, the frame ends at the end of the source, and consumed is the source's length. So if a frame was cut
- * off between two blocks, the blocks before the cut are decoded as a shorter frame, with the status OK. If your
- * protocol ends each frame with a sentinel, test whether source[consumed - 1] is the sentinel. This test also works
- * after decoding in place, because no call changes the sentinel or the bytes after it. The streaming decoder needs no
- * such test: it reports a frame only when the sentinel after the frame has arrived. COBS has no checksum: damage that
- * turns a frame into another frame isn't noticed.
+ * The calls that decode a whole frame don't need a sentinel after the frame: jcobs_decode, jcobs_decode_in_place,
+ * jcobs_decode_with_sentinel and jcobs_decode_in_place_with_sentinel. If there is no sentinel, the frame ends at the
+ * end of the source, and consumed is the source's length. So if a frame was cut off between two blocks, the blocks
+ * before the cut are taken for a whole frame, and the status is OK. If your protocol ends each frame with a sentinel,
+ * test whether source[consumed - 1] is the sentinel. This test also works after decoding in place, because no call
+ * changes the sentinel or the bytes after it. The streaming decoder needs no such test: it reports a frame only when
+ * the sentinel after the frame has arrived. COBS has no checksum: damage that turns a frame into another frame isn't
+ * noticed.
  *
- * This paragraph is about the built library, libjcobs.a. It isn't about jcobs.c, which you compile yourself. On x86-64
- * the built library needs x86-64-v2 (SSE4.2 and POPCNT). Most Intel processors since 2009 and most AMD processors since
- * 2011 have these instructions. On aarch64 the library needs ARMv8-A. The library has call frame information for
- * debuggers, but no unwind tables. No call throws or unwinds. Each call begins with a landing pad (endbr64 or bti c),
- * so a program that is hardened with IBT, SHSTK or BTI stays hardened. The only functions outside the library that it
- * calls are memcpy and memmove.
+ * This paragraph is about the built library, libjcobs.a, and not about jcobs.c, which you compile yourself. On x86-64
+ * the built library needs a processor with x86-64-v2 (SSE4.2 and POPCNT). Most Intel processors since 2009 and most AMD
+ * processors since 2011 have these instructions. On aarch64 the library needs ARMv8-A. The library has call frame
+ * information for debuggers, but no unwind tables. No call throws or unwinds. Each call begins with a landing pad
+ * (endbr64 or bti c), so a program that is hardened with IBT, SHSTK or BTI stays hardened. The library calls only two
+ * functions that it doesn't contain: memcpy and memmove.
  */
 #ifndef JCOBS_H
 #define JCOBS_H
@@ -145,8 +148,8 @@ extern "C" {
 
 /* JCOBS_STATUS is the type of the member status of jcobs_answer. It always has the size of an unsigned int: in C and
  * C++, on every target, and even with -fshort-enums. If the header can make sure that the enum jcobs_status has this
- * size, JCOBS_STATUS is this enum, and -Wswitch checks a switch over the status. Otherwise JCOBS_STATUS is
- * unsigned int. */
+ * size, JCOBS_STATUS is this enum, and otherwise it is unsigned int. If it is the enum, a compiler with -Wswitch checks
+ * each switch on the status. */
 #if (defined(__cplusplus) && __cplusplus >= 201103L) || (defined(__STDC_VERSION__) && __STDC_VERSION__ >= 202311L)
 #define JCOBS_ENUM(name) enum name : unsigned int
 #define JCOBS_STATUS jcobs_status
@@ -174,8 +177,8 @@ typedef struct jcobs_answer {
     size_t length;       /* how many bytes at the front of the buffer belong to the result */
 } jcobs_answer;
 
-/* The results of jcobs_frame_kind. The result says whether the bytes are a frame, and whether encoders write this
- * frame. Pass the bytes without the sentinels before and after them. */
+/* The values that jcobs_frame_kind can return. The value says whether the bytes are a frame, and if so, whether
+ * encoders write this frame. Pass the bytes to the call without the sentinels before and after them. */
 enum jcobs_kind {
     JCOBS_NOT_A_FRAME = 0, /* there are no bytes, a byte is 0, or the bytes break off inside a block */
     JCOBS_CANONICAL = 1,   /* a frame that encoders write */
@@ -209,10 +212,10 @@ typedef struct jcobs_encoder {
 /* clang-format on */
 
 /* With these attributes GCC and Clang check that the result of a call is used, and that a pointer to a state isn't
- * NULL. GCC also checks that the memory at a pointer is at least as long as the length that is passed with the pointer.
- * The parameters `pointer` and `length` of the macros are positions in the list of arguments. The calls that finish a
- * message also read the pushed bytes from the buffer, but are marked as calls that only write to it. Otherwise, if no
- * bytes were pushed, GCC would warn that nothing has been written to the buffer. */
+ * NULL. GCC also checks that a pointer that is passed with a length points to at least that many bytes. The macros'
+ * parameters `pointer` and `length` are positions in the call's list of arguments. The calls that finish a message also
+ * read the pushed bytes from the buffer, but are marked as calls that only write to the buffer. Otherwise, if no bytes
+ * were pushed, GCC would warn that nothing has been written to the buffer. */
 #ifdef __GNUC__
 #define JCOBS_CHECKED __attribute__((warn_unused_result))
 #define JCOBS_STATE __attribute__((nonnull(1)))
@@ -230,13 +233,14 @@ typedef struct jcobs_encoder {
 #define JCOBS_CHANGES(pointer, length)
 #endif
 
-/* Returns the greatest length that the frame of a message of message_len bytes can have, not counting a sentinel. This
- * length is message_len plus message_len / 254, rounded up. For the empty message the length is 1.
+/* Returns the length of the longest frame that a message of message_len bytes can have, not counting a sentinel. This
+ * length is message_len plus message_len / 254, where message_len / 254 is rounded up. For the empty message the length
+ * is 1.
  *
- * The macro JCOBS_MAX_LENGTH has the same value as the function. If the argument is a constant, the macro is a constant
- * expression, so it can be the length of an array. If the value doesn't fit a size_t, the macro wraps around, but the
- * function returns 0. The macro has the type size_t if the argument's type is unsigned and not wider than size_t. The
- * macro evaluates its argument more than once, and can't be used in #if. */
+ * The macro JCOBS_MAX_LENGTH gives the same value as the function. If the argument is a constant, the macro is a
+ * constant expression, so it can be the length of an array. If the value doesn't fit a size_t, the macro wraps around,
+ * but the function returns 0. The value of the macro has the type size_t if the argument's type is unsigned and not
+ * wider than size_t. The macro evaluates its argument more than once, and can't be used in #if. */
 #define JCOBS_MAX_LENGTH(message_len)                                                                                  \
     (sizeof(char) * (message_len) + sizeof(char) * (message_len) / 254 +                                               \
      (sizeof(char) * (message_len) % 254 != 0 || (message_len) == 0 ? 1 : 0))
@@ -260,12 +264,14 @@ JCOBS_API jcobs_answer jcobs_encode_terminated(const void *message, size_t messa
  * - TOO_SMALL, if and only if the frame and its zero don't fit: consumed and length are 0, and the buffer is as it
  *   was. */
 
-/* Encode like jcobs_encode and jcobs_encode_terminated, but XOR each byte of the frame with the given sentinel.
- * jcobs_encode_terminated_with_sentinel then writes this sentinel after the frame, instead of a zero. */
+/* Encodes like jcobs_encode, but XORs each byte of the frame with the given sentinel. */
 JCOBS_API jcobs_answer jcobs_encode_with_sentinel(const void *message, size_t message_len, void *frame,
                                                   size_t frame_size, unsigned char sentinel) JCOBS_READS(1, 2)
     JCOBS_WRITES(3, 4) JCOBS_CHECKED;
 /* returns: the same as jcobs_encode */
+
+/* Encodes like jcobs_encode_terminated, but XORs each byte of the frame with the given sentinel, and writes this
+ * sentinel after the frame instead of a zero. */
 JCOBS_API jcobs_answer jcobs_encode_terminated_with_sentinel(const void *message, size_t message_len, void *frame,
                                                              size_t frame_size, unsigned char sentinel)
     JCOBS_READS(1, 2) JCOBS_WRITES(3, 4) JCOBS_CHECKED;
@@ -282,8 +288,9 @@ JCOBS_API jcobs_answer jcobs_encode_in_place(void *buffer, size_t buffer_size, s
  * - TOO_SMALL, if and only if the buffer is shorter than jcobs_max_length(message_len): consumed and length are 0, and
  *   the buffer is as it was. */
 
-/* Decodes the first frame of the source to the front of the buffer `message`. Leading zeros are skipped, and the frame
- * ends at the next zero or at the end of the source. A buffer of source_len bytes is always long enough. */
+/* Decodes the first frame of the source, and writes the message to the front of the buffer `message`. Leading zeros are
+ * skipped, and the frame ends at the next zero or at the end of the source. A buffer of source_len bytes is always long
+ * enough. */
 JCOBS_API jcobs_answer jcobs_decode(const void *source, size_t source_len, void *message, size_t message_size)
     JCOBS_READS(1, 2) JCOBS_WRITES(3, 4) JCOBS_CHECKED;
 /* returns:
@@ -291,14 +298,14 @@ JCOBS_API jcobs_answer jcobs_decode(const void *source, size_t source_len, void 
  * - BROKEN: consumed is the same as for OK; length is the length of the frame's output, including the block that is cut
  *   off;
  * - TOO_SMALL, if the frame's output, including a block that is cut off, is longer than the buffer: consumed is the
- *   same as for OK; length is message_size. The buffer has the first bytes of the output;
+ *   same as for OK; length is message_size, and the buffer has the first message_size bytes of the output;
  * - EMPTY, if the source has no bytes or only zeros: consumed is source_len, and length is 0. */
 
 /* Decodes a frame that was encoded with the given sentinel, and writes the message to the front of the buffer
  * `message`. The frame is at the front of the source, and ends at the first sentinel or at the end of the source. No
  * sentinel is skipped: if the source begins with a sentinel, the message is empty. Even if the sentinel is 0, the
- * results may differ from those of jcobs_decode. The reason is that jcobs_decode skips leading zeros, and that its
- * output of a broken frame includes the block that is cut off. */
+ * results may differ from those of jcobs_decode, for two reasons: jcobs_decode skips leading zeros, and its output of a
+ * broken frame includes the bytes of the block that is cut off. */
 JCOBS_API jcobs_answer jcobs_decode_with_sentinel(const void *source, size_t source_len, void *message,
                                                   size_t message_size, unsigned char sentinel) JCOBS_READS(1, 2)
     JCOBS_WRITES(3, 4) JCOBS_CHECKED;
@@ -306,13 +313,13 @@ JCOBS_API jcobs_answer jcobs_decode_with_sentinel(const void *source, size_t sou
  * - OK: consumed counts the frame and the sentinel after it; length is the length of the message;
  * - BROKEN: consumed is the same as for OK; length is the length of the frame's output, without the block that is cut
  *   off;
- * - TOO_SMALL, if the frame's output, without a block that is cut off, is longer than the buffer: consumed is the
- *   same as for OK; length is message_size. The buffer has the first bytes of the output;
+ * - TOO_SMALL, if the frame's output, without a block that is cut off, is longer than the buffer: consumed is the same
+ *   as for OK; length is message_size, and the buffer has the first message_size bytes of the output;
  * - EMPTY, if the source has no bytes: consumed and length are 0. */
 
-/* Decodes the frame at the front of the buffer in place. The frame ends at the first zero or at the end of the buffer.
- * No zero is skipped: if the buffer begins with a zero, the message is empty. The message always fits, because no
- * message is longer than its frame. */
+/* Decodes the frame at the front of the buffer, and writes the message to the front of the same buffer. The frame ends
+ * at the first zero or at the end of the buffer. No zero is skipped: if the buffer begins with a zero, the message is
+ * empty. The message always fits, because no message is longer than its frame. */
 JCOBS_API jcobs_answer jcobs_decode_in_place(void *buffer, size_t buffer_len) JCOBS_CHANGES(1, 2) JCOBS_CHECKED;
 /* returns:
  * - OK: consumed counts the frame and the zero after it; length is the length of the message;
@@ -327,7 +334,7 @@ JCOBS_API jcobs_answer jcobs_decode_in_place_with_sentinel(void *buffer, size_t 
     JCOBS_CHANGES(1, 2) JCOBS_CHECKED;
 /* returns: the same as jcobs_decode_in_place, with the sentinel instead of the zero */
 
-/* Returns whether the bytes are a frame for the sentinel 0, and whether that frame is the one that encoders write. */
+/* Returns whether the bytes are a frame for the sentinel 0, and if so, whether encoders write this frame. */
 JCOBS_API unsigned int jcobs_frame_kind(const void *bytes, size_t len) JCOBS_READS(1, 2) JCOBS_CHECKED;
 /* returns: a value of the enum jcobs_kind */
 
@@ -351,7 +358,7 @@ JCOBS_API jcobs_answer jcobs_decoder_push(jcobs_decoder *decoder, void *buffer, 
  * - BROKEN: consumed is the same as for OK; length is the length of the frame's output, including the block that is cut
  *   off;
  * - TOO_SMALL, if the frame's output, including a block that is cut off, is longer than the buffer: consumed is the
- *   same as for OK; length is buffer_size. The buffer has the first bytes of the output;
+ *   same as for OK; length is buffer_size, and the buffer has the first buffer_size bytes of the output;
  * - MORE: consumed is len; length is the number of bytes of the unfinished message that are in the buffer. */
 
 /* Decodes one byte of a stream. The call has the same effect as jcobs_decoder_push with this byte, and is faster. */
@@ -368,10 +375,11 @@ JCOBS_API jcobs_answer jcobs_decoder_push_with_sentinel(jcobs_decoder *decoder, 
     JCOBS_READS(4, 5) JCOBS_CHECKED;
 /* returns: the same as jcobs_decoder_push, with the sentinel instead of the zero */
 
-/* Returns whether no frame is open. A frame is open from its first byte until the sentinel that ends it. At the end of
- * a stream, the result 0 means that the sentinel after the last frame is missing. */
+/* Returns whether the decoder is idle, which means that no frame is open. A frame is open from its first byte until the
+ * sentinel that ends it. At the end of a stream, the result 0 means that the sentinel after the last frame is
+ * missing. */
 JCOBS_API unsigned int jcobs_decoder_is_idle(const jcobs_decoder *decoder) JCOBS_STATE JCOBS_CHECKED;
-/* returns: 1 if no frame is open, and 0 if a frame is open */
+/* returns: 1 if the decoder is idle, and 0 if a frame is open */
 
 /* Resets the encoder to the initial state, from any state. */
 JCOBS_API void jcobs_encoder_reset(jcobs_encoder *encoder) JCOBS_STATE;
@@ -384,15 +392,15 @@ JCOBS_API void jcobs_encoder_reset(jcobs_encoder *encoder) JCOBS_STATE;
 JCOBS_API jcobs_answer jcobs_encoder_push(jcobs_encoder *encoder, void *buffer, size_t buffer_size, const void *bytes,
                                           size_t len) JCOBS_STATE JCOBS_WRITES(2, 3) JCOBS_READS(4, 5) JCOBS_CHECKED;
 /* returns:
- * - OK: consumed is len, and length is the length of the frame so far. The frame in the buffer isn't complete until the
- *   message is finished, because only the call that finishes the message writes the code of the open block;
+ * - OK: consumed is len, and length is the length of the frame so far. This frame is still incomplete: only the call
+ *   that finishes the message writes the code of the open block;
  * - TOO_SMALL, if and only if the frame of the message, including these bytes, doesn't fit: consumed and length are 0,
  *   and the state and the buffer are as they were. */
 
 /* Encodes one byte of a message. The call has the same effect as jcobs_encoder_push with this byte, and is faster. */
 JCOBS_API jcobs_answer jcobs_encoder_feed(jcobs_encoder *encoder, void *buffer, size_t buffer_size,
                                           unsigned char byte) JCOBS_STATE JCOBS_WRITES(2, 3) JCOBS_CHECKED;
-/* returns: the same as jcobs_encoder_push; consumed is 1 or 0 */
+/* returns: the same as jcobs_encoder_push; consumed is 1 for OK, and 0 for TOO_SMALL */
 
 /* Ends the message. The buffer then begins with the frame that jcobs_encode would write for the message, and the
  * encoder is in the initial state. */
@@ -400,11 +408,11 @@ JCOBS_API jcobs_answer jcobs_encoder_finish(jcobs_encoder *encoder, void *buffer
     JCOBS_WRITES(2, 3) JCOBS_CHECKED;
 /* returns:
  * - OK: consumed is 0, and length is the length of the frame;
- * - TOO_SMALL, only if buffer_size is 0, or if another buffer was passed to the pushes: consumed and length are 0, and
+ * - TOO_SMALL, only if buffer_size is 0, or if the pushes were passed another buffer: consumed and length are 0, and
  *   the state and the buffer are as they were. */
 
-/* Ends the message like jcobs_encoder_finish, and also writes a zero after the frame. The buffer needs one more byte
- * for the zero. */
+/* Ends the message like jcobs_encoder_finish, and also writes a zero after the frame. The buffer needs room for the
+ * frame and one more byte. */
 JCOBS_API jcobs_answer jcobs_encoder_finish_terminated(jcobs_encoder *encoder, void *buffer,
                                                        size_t buffer_size) JCOBS_STATE JCOBS_WRITES(2, 3) JCOBS_CHECKED;
 /* returns:
@@ -412,13 +420,16 @@ JCOBS_API jcobs_answer jcobs_encoder_finish_terminated(jcobs_encoder *encoder, v
  * - TOO_SMALL, if the frame and its zero don't fit: consumed and length are 0, and the state and the buffer are as they
  *   were. */
 
-/* End the message like jcobs_encoder_finish and jcobs_encoder_finish_terminated, but XOR each byte of the frame with
- * the given sentinel. jcobs_encoder_finish_terminated_with_sentinel then writes this sentinel after the frame, instead
- * of a zero. Push the message with jcobs_encoder_push or jcobs_encoder_feed, whatever the sentinel is. */
+/* Ends the message like jcobs_encoder_finish, but XORs each byte of the frame with the given sentinel. Push the message
+ * with jcobs_encoder_push or jcobs_encoder_feed, whatever the sentinel is. */
 JCOBS_API jcobs_answer jcobs_encoder_finish_with_sentinel(jcobs_encoder *encoder, void *buffer, size_t buffer_size,
                                                           unsigned char sentinel) JCOBS_STATE
     JCOBS_WRITES(2, 3) JCOBS_CHECKED;
 /* returns: the same as jcobs_encoder_finish */
+
+/* Ends the message like jcobs_encoder_finish_terminated, but XORs each byte of the frame with the given sentinel, and
+ * writes this sentinel after the frame instead of a zero. Push the message with jcobs_encoder_push or
+ * jcobs_encoder_feed, whatever the sentinel is. */
 JCOBS_API jcobs_answer jcobs_encoder_finish_terminated_with_sentinel(jcobs_encoder *encoder, void *buffer,
                                                                      size_t buffer_size,
                                                                      unsigned char sentinel) JCOBS_STATE
@@ -432,7 +443,7 @@ JCOBS_API jcobs_answer jcobs_encoder_finish_terminated_with_sentinel(jcobs_encod
 JCOBS_API size_t jcobs_strerror(unsigned int status, char *text, size_t text_size) JCOBS_WRITES(2, 3);
 /* returns: the length of the whole description, without the '\0' */
 
-/* Returns the version of the library, as a number in the form of JCOBS_VERSION. */
+/* Returns the version of the library, as a number of the same form as JCOBS_VERSION. */
 JCOBS_API unsigned int jcobs_version(void);
 
 /* Returns 1. A library of another major version has no function of this name, so a program that calls this function

@@ -14,8 +14,9 @@
 #include "jcobs.h"
 
 /* These macros call functions of CPython to change reference counts. CPython 3.12 shares immortal objects between
- * interpreters, but the headers of earlier versions don't know about immortal objects, and change reference counts
- * inline. So if each interpreter has its own GIL, two threads could change the count of such an object at once. */
+ * interpreters. The macros in the headers of earlier versions don't know about immortal objects, and change every
+ * reference count inline. So with those macros, two threads could change the count of an immortal object at once, if
+ * their interpreters have GILs of their own. */
 #undef Py_INCREF
 #undef Py_DECREF
 #undef Py_XDECREF
@@ -32,18 +33,20 @@
 /* After this many bytes of a chunk, a decoder lets signal handlers and other threads run. */
 #define TURN 65536
 
-/* The flag of a function that gets its arguments as an array. The stable ABI has a name for this flag only from CPython
- * 3.10 on, but CPython 3.9 has the flag too. */
+/* The flag of a function that gets its arguments as an array. The headers for the stable ABI name this flag only from
+ * CPython 3.10 on, but CPython 3.9 has the flag too. */
 #ifndef METH_FASTCALL
 #define METH_FASTCALL 0x0080
 #endif
 #define FAST(function) ((PyCFunction)(void (*)(void))(function))
 
 /* Returns an argument as a bytes object. A bytes object is returned as it is. The bytes of any other object with a
- * buffer are copied, so that no other thread or process can change the bytes while a call reads them. */
+ * buffer are copied, so that no other thread or process can change the bytes while a call reads them. On failure,
+ * raises an error and returns NULL. */
 PyObject *bytes_of(PyObject *data, const char *name);
 
-/* The name of a call, and the names of its arguments. The first argument is required, by position or by name. */
+/* The name of a call, and the names of its arguments. The first argument is required, and may be passed by position or
+ * by name. */
 typedef struct {
     const char *call;
     Py_ssize_t count;
@@ -58,18 +61,19 @@ int arguments_of(const Signature *signature, PyObject *const *args, Py_ssize_t c
 /* Returns a pointer to the bytes of a bytes object, for calls of libjcobs. */
 unsigned char *start_of(PyObject *bytes);
 
-/* Converts an argument to a sentinel, and returns 1. If the argument is NULL, the sentinel is 0. On failure, raises an
- * error and returns 0. */
+/* Converts an argument to a sentinel, writes the sentinel to `result`, and returns 1. If the argument is NULL, the
+ * sentinel is 0. On failure, raises an error and returns 0. */
 int sentinel_of(PyObject *number, unsigned char *result);
 
-/* Converts an argument to a length, and returns 1. On failure, raises an error and returns 0. */
+/* Converts an argument to a length, writes the length to `result`, and returns 1. On failure, raises an error and
+ * returns 0. */
 int length_of(PyObject *number, const char *name, size_t *result);
 
 /* Converts max_length and sentinel, the arguments of a coder, and returns 1. On failure, raises an error and returns
  * 0. */
 int coder_arguments(PyObject *args, size_t *max_length, unsigned char *sentinel);
 
-/* Releases the GIL if the input has at least LONG bytes. */
+/* Releases the GIL if the input has at least LONG bytes. The caller passes the result to `restore`. */
 PyThreadState *release(size_t len);
 
 /* Takes the GIL back if it was released. */
@@ -84,7 +88,8 @@ PyObject *room_of(size_t len);
  * most 1 byte in 254 stays unused. */
 PyObject *cut(PyObject *bytes, size_t len);
 
-/* XORs each of the bytes at `from` with the sentinel, and writes the results to `to`. `to` may be `from`. */
+/* XORs each of the bytes at `from` with the sentinel, and writes the results to `to`, which may be the same pointer as
+ * `from`. */
 void xor_each(unsigned char *to, const unsigned char *from, size_t len, unsigned char sentinel);
 
 /* Pushes the next bytes of a stream to a decoder. Each frame of the stream was encoded with the given sentinel, and the
@@ -95,10 +100,11 @@ jcobs_answer push(jcobs_decoder *decoder, unsigned char *buffer, size_t room, co
 /* Frees the object's memory, and then drops the object's reference to its class. */
 void free_object(PyObject *self);
 
-/* Returns a new object of the class, whose memory is zeroed. On failure, raises MemoryError and returns NULL. */
+/* Returns a new object of the class. Its memory is zeroed. On failure, raises MemoryError and returns NULL. */
 void *new_object(PyTypeObject *type);
 
-/* A buffer for calls of libjcobs, with room for one message or frame. `busy` says whether a call is using it. */
+/* A buffer for calls of libjcobs, with room for one message or frame. `busy` says whether a call is using the
+ * buffer. */
 typedef struct {
     unsigned char *start;
     size_t len;

@@ -65,10 +65,10 @@ static int decoder_append(Decoder *self, PyObject *list, PyObject *classes, jcob
     return done;
 }
 
-/* Runs signal handlers, and returns -1 with the error if a handler raised one. If 10 ms have passed since `turn`, also
- * lets other threads run. It is useless to do so more often: a thread that waits for the GIL asks for it only after
- * 5 ms (sys.getswitchinterval), and again 5 ms after each release. If no other thread has asked for the GIL, a thread
- * that releases it gets it back at once. */
+/* Runs signal handlers, and returns -1 if a handler raised an error, and otherwise 0. If 10 ms have passed since
+ * `turn`, also lets other threads run. It would be useless to let them run more often: a thread that waits for the GIL
+ * asks for it only after 5 ms (sys.getswitchinterval), and again 5 ms after each release. If no other thread has asked
+ * for the GIL, a thread that releases it gets it back at once. */
 static int have_turn(clock_t *turn)
 {
     clock_t now = clock();
@@ -105,9 +105,9 @@ static PyObject *decoder_outcomes(Decoder *self, PyObject *chunk, PyObject *clas
     return list;
 }
 
-/* feed(chunk, classes): returns a list of objects of the three classes. While the chunk is decoded, an error occurs
- * only at the end of a frame. So the decoder is then in its initial state, and the rest of the chunk is dropped. The
- * decoder is also reset if there is no memory for a copy of the chunk, or for the list. */
+/* feed(chunk, classes): returns a list of objects of the three classes. While the chunk is decoded, an error can occur
+ * only when a frame has just ended. So the decoder is in its initial state after an error. The rest of the chunk is
+ * dropped. The decoder is also reset if there is no memory for a copy of the chunk, or for the list. */
 static PyObject *decoder_feed(PyObject *object, PyObject *const *args, Py_ssize_t count)
 {
     Decoder *self = (Decoder *)object;

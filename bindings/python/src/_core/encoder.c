@@ -64,7 +64,7 @@ static PyObject *encoder_feed(PyObject *object, PyObject *data)
         PyThreadState *thread = release(len);
         jcobs_answer answer = jcobs_encoder_push(&self->state, self->buffer.start, self->buffer.len, bytes, len);
         restore(thread);
-        (void)answer; /* there is always room for max_length bytes */
+        (void)answer; /* there is always room for a message of max_length bytes */
         self->taken += len;
     } else {
         PyErr_Format(PyExc_ValueError, "the message is longer than max_length=%zu", self->max_length);

@@ -207,7 +207,7 @@ static const char decode_document[] =
     "b'hello'";
 static const char frame_kind_document[] =
     "frame_kind(frame, *, sentinel=0)\n--\n\n"
-    "Returns whether bytes are a frame, and whether `encode` returns this frame.\n\n"
+    "Returns whether bytes are a frame, and if so, whether `encode` returns this frame.\n\n"
     "Pass the bytes without the sentinels before and after them. The result is \"canonical\" if `encode` returns this\n"
     "frame for some message. It is \"longer\" if the frame has one needless block at its end; decoders accept such a\n"
     "frame. It is \"not_a_frame\" if the bytes aren't a frame.\n\n"
@@ -217,7 +217,7 @@ static const char frame_kind_document[] =
     "'not_a_frame'";
 static const char max_length_document[] =
     "max_length(length)\n--\n\n"
-    "Returns the greatest length that the frame of a message of `length` bytes can have, not counting a sentinel.\n\n"
+    "Returns the length of the longest frame that a message of `length` bytes can have, not counting a sentinel.\n\n"
     ">>> jcobs.max_length(254), jcobs.max_length(255)\n"
     "(255, 257)";
 

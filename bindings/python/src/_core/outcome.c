@@ -17,7 +17,7 @@ static PyObject *outcome_make(PyTypeObject *type, PyObject *data)
     return (PyObject *)self;
 }
 
-/* Raises TypeError because the argument is missing or isn't bytes. */
+/* Raises TypeError, because the caller didn't pass exactly one argument `data`, or passed one that isn't bytes. */
 static PyObject *outcome_wrong(PyTypeObject *type, PyObject *data)
 {
     PyObject *name = PyObject_GetAttrString((PyObject *)type, "__name__"), *given = NULL;
@@ -45,8 +45,8 @@ static PyObject *outcome_new(PyTypeObject *type, PyObject *args, PyObject *kwarg
 
 PyObject *outcome_of(PyObject *class, PyObject *data)
 {
-    /* If outcome_new is the constructor of a class, the class has no __init__ of its own (see _streams.py). So it isn't
-     * necessary to call an __init__. */
+    /* If outcome_new is the constructor of a class, the class has no __init__ of its own (see _streams.py). So no
+     * __init__ has to be called. */
     if (PyType_Check(class) && (PyType_GetFlags((PyTypeObject *)class) & Py_TPFLAGS_HEAPTYPE) &&
         PyType_GetSlot((PyTypeObject *)class, Py_tp_new) == (void *)outcome_new)
         return outcome_make((PyTypeObject *)class, data);

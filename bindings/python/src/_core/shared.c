@@ -1,8 +1,8 @@
 /* The code that the functions and the types share. */
 #include "core.h"
 
-/* If Python itself raised a TypeError, adds the name of the wrong argument to it. The message of such an error contains
- * `text`. A TypeError that a method of the argument raised isn't changed. */
+/* If Python itself raised a TypeError, replaces this error with one that names the wrong argument. The message of
+ * Python's error contains `text`. A TypeError that a method of the argument raised isn't changed. */
 static void wrong_type(const char *name, const char *wanted, PyObject *given, const char *text)
 {
     PyObject *type, *value, *trace, *said = NULL, *begin = NULL, *class = NULL;

@@ -19,7 +19,7 @@ NAMES = {jcobs.Message: "message", jcobs.Broken: "broken", jcobs.TooLong: "too l
 
 
 class Fault(Exception):
-    """An error whose text the user reads; the program then ends with status 1."""
+    """An error whose text is printed for the user. The program then ends with status 1."""
 
 
 def arguments() -> argparse.ArgumentParser:

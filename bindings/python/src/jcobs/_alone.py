@@ -1,4 +1,4 @@
-"""A lock for methods. The lock never waits: a call raises an error if another call is running."""
+"""A lock for methods. A call never waits for the lock: if another call is running, the new call raises an error."""
 
 from __future__ import annotations
 
@@ -10,7 +10,7 @@ from typing import Any, Callable, Dict, List, Optional, TypeVar, cast
 
 _Method = TypeVar("_Method", bound=Callable[..., Any])
 
-# For each use of an object, the stack frames of the calls that have begun but not ended.
+# A dictionary from each use of an object to the stack frames of the calls that have begun but not ended.
 Calls = Dict[str, List[FrameType]]
 
 
@@ -29,9 +29,9 @@ def is_at_work(frame: FrameType) -> bool:
 def begins(calls: List[FrameType], mine: FrameType) -> bool:
     """Adds the stack frame of a call to `calls`, and returns whether no other call in `calls` is running.
 
-    If another call is running, the stack frame is removed again. A call that has ended may have left its stack frame in
-    `calls`, if a signal handler raised an exception before the call could remove it. This function removes the stack
-    frames of such calls, and of no other calls.
+    If another call is running, the stack frame that was added is removed again. A call that has ended may have left its
+    stack frame in `calls`, if a signal handler raised an exception before the call could remove it. This function
+    removes the stack frames of such calls, and of no other calls.
     """
     calls.append(mine)
     while (first := calls[0]) is not mine:
@@ -44,14 +44,14 @@ def begins(calls: List[FrameType], mine: FrameType) -> bool:
 
 
 def alone(what: str, use: Optional[str] = None) -> Callable[[_Method], _Method]:
-    """Makes a method raise RuntimeError while another call is running on its object, in any thread or signal handler.
+    """Makes a method raise RuntimeError if another call on its object is running, in any thread or signal handler.
 
     Methods with different values of `use` may run at the same time. The object must have a dictionary `_calls`, which
     is empty at first.
 
-    The finally clause makes no calls, because CPython 3.11 and later versions run signal handlers after calls. In older
-    versions, and on PyPy, a signal handler may raise an exception even inside the finally clause. In this case the next
-    call finds out that this call has ended.
+    The finally clause makes no calls: CPython 3.11 and later versions run signal handlers after calls, so none runs
+    inside this clause. In older versions, and on PyPy, a signal handler may raise an exception even inside the finally
+    clause. In this case the next call finds out that this call has ended.
     """
     use = use or what
 

@@ -44,9 +44,10 @@ class AsyncFrameReader(Frames):
     ends. If a read is cancelled, for example by a timeout, no byte is lost, and the next call continues where the
     cancelled read stopped.
 
-    The stream is an `asyncio.StreamReader`, an object with `receive_some` (such as a stream of trio) or an object with
-    `receive` (such as a stream of anyio). For asyncio, `writer` is the `StreamWriter`. For trio and anyio, messages are
-    sent with the method `send_all` or `send` of `writer`, or of the stream if no `writer` is passed.
+    The stream may be an `asyncio.StreamReader`, or an object with the method `receive_some` (such as a stream of trio),
+    or an object with the method `receive` (such as a stream of anyio). For asyncio, `writer` is the `StreamWriter`. For
+    trio and anyio, messages are sent with the method `send_all` or `send` of `writer`, or of the stream if no `writer`
+    is passed.
 
     If `sync` is true, a sentinel is sent before the first frame. So earlier bytes of another sender, or noise on the
     line, don't become part of the first frame.
@@ -141,7 +142,7 @@ class AsyncFrameReader(Frames):
     async def _take_by_a_task(self, timeout: float) -> Optional[bytes]:
         """Implements `_take_within` for asyncio.
 
-        `asyncio.wait_for` isn't used, because up to Python 3.11 it would swallow a cancellation.
+        `asyncio.wait_for` isn't used, because in Python 3.11 and older versions it can swallow a cancellation.
         """
         import asyncio
 

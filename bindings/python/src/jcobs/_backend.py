@@ -1,8 +1,8 @@
 """Chooses the code to use: the extension `_core` if it can be loaded, otherwise `_plain`, which is written in Python.
 
 If the environment variable JCOBS_BACKEND is "python", `_plain` is used. If it is "prebuilt" or "compiled", and the
-extension can't be loaded, ImportError is raised. An earlier installation may have left an extension of another version.
-Such an extension isn't used.
+extension can't be loaded, ImportError is raised. If an earlier installation has left an extension of another version,
+that extension isn't used.
 """
 
 from __future__ import annotations

@@ -11,13 +11,14 @@ import sys
 from typing import Any, Callable, Deque, Iterable, Optional, Protocol
 
 CHUNK = 65536
-# This object stands for bytes that were read and then lost. It is recognized by its identity.
+# This object stands for bytes that were read and then lost. It is recognized by its identity (`is`), not by its bytes.
 GAP = bytes(bytearray(b"gap"))
 
 Kept = Deque[bytes]
-# A function that reads the bytes of a file that have arrived, and keeps them. If no bytes have arrived, the function
-# waits until some arrive. At the end of the stream it keeps empty bytes. The second parameter is the timeout in
-# seconds; None means the file's own timeout. The function returns False if no bytes have arrived before the timeout.
+# A function that reads the bytes that have arrived from a file, and appends them to the third parameter. If no bytes
+# have arrived, the function waits until some arrive. At the end of the stream it appends empty bytes. The second
+# parameter is the timeout in seconds; None means the file's own timeout. The function returns False if no bytes have
+# arrived before the timeout.
 Read = Callable[[Any, Optional[float], Kept], bool]
 
 
@@ -36,11 +37,11 @@ class Receivable(Protocol):
 
 
 def keep(kept: Kept, read: Callable[[int], Optional[bytes]], size: int, in_python: bool = False) -> bool:
-    """Reads bytes and keeps them. If no bytes have arrived, keeps nothing, and returns False.
+    """Reads bytes and appends them to `kept`. If no bytes have arrived, appends nothing, and returns False.
 
-    If `read` is written in C, no bytecode runs after the read and before the bytes are kept. So if a signal handler
-    raises an exception, no byte that was read is lost. If `read` is written in Python (`in_python`), and an exception
-    interrupts it, it may have lost bytes. In this case a GAP is kept.
+    If `read` is written in C, no bytecode runs after the read and before the bytes are appended. So even if a signal
+    handler raises an exception, no byte that was read is lost. If `read` is written in Python (`in_python`), and an
+    exception interrupts `read`, bytes may be lost. In this case `GAP` is appended.
     """
     try:
         kept.extend(map(read, (size,)))  # type: ignore[arg-type]
@@ -81,7 +82,7 @@ def is_ready(file: Any, timeout: float) -> bool:
         raise TypeError(f"a timeout needs a serial port, a socket or a file: {kind} has no fileno")
     descriptor = descriptor_of(file)
     if descriptor is None:
-        return True  # bytes in memory
+        return True  # the file is in memory
     if hasattr(file, "pending") and file.pending():
         return True  # a socket of pyOpenSSL has decrypted some bytes already
     return wait([descriptor], timeout)
@@ -90,12 +91,12 @@ def is_ready(file: Any, timeout: float) -> bool:
 def read_port(port: Any, timeout: Optional[float], kept: Kept) -> bool:
     """Reads the bytes that have arrived at a serial port. If no bytes have arrived, waits for the next byte.
 
-    The function waits on the descriptor. It doesn't set the port's own timeout, because that would configure the port
-    again while bytes are arriving.
+    The function waits on the descriptor. It doesn't set the port's own timeout, because pyserial would then configure
+    the port again while bytes are arriving.
     """
     waiting = port.in_waiting
     if not waiting:
-        abort = getattr(port, "pipe_abort_read_r", None)  # readable after port.cancel_read()
+        abort = getattr(port, "pipe_abort_read_r", None)  # this becomes readable when port.cancel_read() is called
         descriptors = [port.fileno()] if abort is None else [port.fileno(), abort]
         if not wait(descriptors, port.timeout if timeout is None else timeout):
             return False
@@ -133,9 +134,10 @@ def read_port_at_a_socket(port: Any, timeout: Optional[float], kept: Kept) -> bo
 
 
 def keep_some(kept: Kept, port: Any, waiting: int) -> bool:
-    """Reads `waiting` bytes and keeps them. If `waiting` is 0, waits for 1 byte.
+    """Reads `waiting` bytes and appends them to `kept`. If `waiting` is 0, waits for 1 byte.
 
-    A port has no end. So if no byte was read, the port's timeout has passed, and the function returns False.
+    The bytes of a port have no end. So if no byte was read, the port's timeout has passed, and the function returns
+    False.
     """
     keep(kept, port.read, min(max(waiting, 1), CHUNK), in_python=True)
     if kept[-1]:
@@ -162,7 +164,7 @@ def read_ssl(sock: Any, timeout: Optional[float], kept: Kept) -> bool:
     """Reads the bytes that have arrived at an SSL socket. If no bytes have arrived, waits until some arrive.
 
     An SSL socket may be readable only because a record without data has arrived. So the function doesn't wait until the
-    socket is readable: it sets the timeout of the socket itself.
+    socket is readable. Instead, it sets the timeout of the socket itself.
     """
     from ssl import SSLWantReadError
 
@@ -187,7 +189,7 @@ def waits(file: Any) -> bool:
 
 
 def read_file(file: Any, timeout: Optional[float], kept: Kept) -> bool:
-    """Reads the bytes of a file that have arrived. If no bytes have arrived, waits until some arrive."""
+    """Reads the bytes that have arrived from a file. If no bytes have arrived, waits until some arrive."""
     if timeout is not None and not is_ready(file, timeout):
         return False
     of_socket = isinstance(getattr(file, "raw", file), socket.SocketIO)
@@ -230,6 +232,7 @@ def send(file: Any, data: bytes) -> None:
             raise OSError(errno.ECANCELED, f"the write was cancelled, with {len(data)} bytes of the frame left")
         if count is None and raw:
             raise BlockingIOError(errno.EAGAIN, f"the file took no more, with {len(data)} bytes of the frame left")
-    # A port has no buffer of its own: its flush waits until the bytes are on the wire, however long that takes.
+    # A port isn't flushed: it has no buffer of its own, and its flush waits until the bytes are on the wire, however
+    # long that takes.
     if not raw and not port and hasattr(file, "flush"):
         file.flush()

@@ -1,4 +1,4 @@
-"""Whole messages and frames."""
+"""Encodes whole messages, and decodes whole frames."""
 
 from __future__ import annotations
 
@@ -19,9 +19,9 @@ class DecodeError(ValueError):
     broken or too long.
 
     `kind` is "broken" if the frame breaks off inside a block, and "empty" if there are no bytes, or only sentinels. If
-    a reader raises the error, `kind` may also be "too_long": then the reply is longer than the reader's `max_length`.
-    `data` is the bytes that the frame decodes to before it breaks off. If a reader raises the error, `data` has at most
-    `max_length` bytes.
+    a reader raises the error, `kind` may also be "too_long", which means that the reply is longer than the reader's
+    `max_length`. `data` is the bytes that the frame decodes to before it breaks off. If a reader raises the error,
+    `data` has at most `max_length` bytes.
 
     >>> try:
     ...     jcobs.decode(b"\\x06hel")
@@ -53,14 +53,14 @@ max_length = core.max_length
 
 
 def encode_in_place(buffer: WriteableBuffer, length: int, *, sentinel: int = 0) -> int:
-    """Encodes a message in place in `buffer`, and returns the length of the frame.
+    """Encodes a message in its own buffer, `buffer`, and returns the length of the frame.
 
     Before the call the message, which has `length` bytes, begins at index `max_length(length) - length` of `buffer`.
     The bytes before this index have no effect. After the call `buffer` begins with the frame, and the bytes after the
     frame are as they were.
 
-    This function calls `encode` with a copy of the message, so it is no faster than `encode`. It remains for scripts
-    that already use it.
+    This function calls `encode` with a copy of the message, so it is no faster than `encode`. It is kept only for
+    scripts that already use it.
 
     `buffer` is a contiguous bytes-like object that can be written to. If `buffer` has fewer than `max_length(length)`
     bytes, the function raises ValueError and leaves `buffer` as it was.

@@ -142,7 +142,7 @@ def decode(frame: ReadableBuffer, *, sentinel: int = 0) -> bytes:
 
 
 def frame_kind(frame: ReadableBuffer, *, sentinel: int = 0) -> FrameKind:
-    """Returns whether bytes are a frame, and whether `encode` returns this frame.
+    """Returns whether bytes are a frame, and if so, whether `encode` returns this frame.
 
     Pass the bytes without the sentinels before and after them. The result is "canonical" if `encode` returns this
     frame for some message. It is "longer" if the frame has one needless block at its end; decoders accept such a
@@ -162,7 +162,7 @@ def frame_kind(frame: ReadableBuffer, *, sentinel: int = 0) -> FrameKind:
 
 
 def max_length(length: int) -> int:
-    """Returns the greatest length that the frame of a message of `length` bytes can have, not counting a sentinel.
+    """Returns the length of the longest frame that a message of `length` bytes can have, not counting a sentinel.
 
     >>> jcobs.max_length(254), jcobs.max_length(255)
     (255, 257)
@@ -242,7 +242,7 @@ class Decoder:
         self._too_long = self._too_long or len(data) > room
 
     def _end(self) -> Tuple[int, bytes]:
-        """Ends the piece. Returns the index of the outcome's class in the tuple `classes`, and the decoded bytes."""
+        """Ends the piece. Returns the index at which `classes` has the outcome's class, and the decoded bytes."""
         found = 2 if self._too_long else 1 if self._missing else 0, bytes(self._buffer[: self._written])
         self._clear()
         return found

@@ -24,7 +24,7 @@ if TYPE_CHECKING:
 # The longest wait in seconds that is passed to the system. Every system accepts a wait of this length.
 LONGEST = 2_000_000.0
 IN_USE = "the reader is in use by another call"
-# The longest time in seconds that `discard` reads if bytes never stop arriving.
+# After this many seconds `discard` stops, even if bytes are still arriving.
 LONGEST_DISCARD = 1.0
 
 
@@ -36,8 +36,8 @@ def closing(count: int, sentinel: int) -> bytes:
     bytes complete that block. The next byte is the code 255. Fewer than 254 bytes follow it, so the frame is broken.
 
     At most 254 bytes of a block can be missing, so `count` is at most 255. If `count` is 255, the first returned byte
-    is 1, the code of a block that has only its code. It can't be 255: if no byte of a block were missing, the 255 and
-    the 254 bytes after it would be a full block.
+    is 1, the code of a block that has only its code. It can't be 255: if the frame was cut off between two blocks, the
+    255 and the 254 bytes after it would be a full block, and the frame would not be broken.
     """
     spoiling = b"\xff" * count if count < 255 else b"\x01" + b"\xff" * 254
     return bytes(byte ^ sentinel for byte in spoiling + b"\0")
@@ -53,7 +53,7 @@ def reply_of(outcome: Optional[Outcome]) -> bytes:
 
 
 class Deadline:
-    """The moment at which a call stops waiting, or none if the call waits without a limit."""
+    """The moment at which a call stops waiting. If the call waits without a limit, there is no such moment."""
 
     def __init__(self, timeout: Optional[float]) -> None:
         if isinstance(timeout, (str, bytes)) or not (timeout is None or hasattr(timeout, "__float__")):
@@ -96,10 +96,10 @@ class Frames(Coder):
         self._headless = self._headless or begun
 
     def _check_arrived(self) -> None:
-        """Drops the chunk that has arrived if it is empty or is the GAP.
+        """Drops the chunk that has arrived, if it is empty or is `GAP`, which stands for lost bytes.
 
-        Such a chunk may be left if an exception ended a read. The last step drops the GAP: if a signal handler raises
-        an exception before this step, the next call finds the GAP again.
+        Such a chunk may be left if an exception ended a read. The last step drops the chunk: if a signal handler raises
+        an exception before this step, the next call finds the chunk again.
         """
         if self._arrived and (not self._arrived[0] or self._arrived[0] is GAP):
             if self._arrived[0] is GAP:
@@ -144,8 +144,8 @@ class Frames(Coder):
         """
         frame = encode(message, sentinel=self._sentinel, terminated=True)
         lead = closing(self._cut, self._sentinel) if self._cut else self._lead
-        # If this frame is cut, the number of missing bytes of a block is less than the frame's length. If an earlier
-        # frame was cut too, up to 254 bytes may be missing.
+        # If this frame is cut inside a block, the number of bytes missing from the block is less than the frame's
+        # length. If an earlier frame was cut too, up to 254 bytes may be missing.
         self._cut = 255 if lead else min(len(frame), 255)
         return lead + frame
 
@@ -160,18 +160,19 @@ class FrameReader(Frames):
     `read` returns the outcome of one frame: a `Message`, `Broken` or `TooLong`. `max_length` is the length in bytes of
     the longest message that can be read. Iterating over the reader yields each outcome as soon as its frame ends, until
     the stream ends or a timeout of the port or socket passes. After a timeout, reading can continue. No byte is lost if
-    the read of the file raises an exception.
+    the file's own read raises an exception.
 
     A signal handler may raise an exception during a read, as the handler for Ctrl-C does. With the extension on CPython
-    3.11 or later, such an exception loses no byte of a socket, a pipe or a file. Bytes may be lost in plain Python, on
-    an older CPython, in pyserial, and in the file that a socket's `makefile` returns. If bytes are lost, the reader
-    returns one `Broken` with empty `data` instead of the frames that are damaged by the loss.
+    3.11 or later, no byte from a socket, a pipe or a file is lost through such an exception. Bytes may be lost in plain
+    Python and on an older CPython. They may also be lost in pyserial, and in the file that a socket's `makefile`
+    returns. If bytes are lost, the reader returns one `Broken` with empty `data` instead of the frames that are damaged
+    by the loss.
 
     If `sync` is true, a sentinel is sent before the first frame. So earlier bytes of another sender, or noise on the
     line, don't become part of the first frame.
 
     One thread may read while another thread writes. While a call that reads is running, other calls that read raise
-    RuntimeError. The same rule holds for calls that write.
+    RuntimeError. While a call that writes is running, other calls that write raise RuntimeError too.
 
     >>> import io
     >>> reader = jcobs.FrameReader(io.BytesIO(b"\\x03hi\\x00\\x06hello\\x00\\x05by"))
@@ -184,8 +185,8 @@ class FrameReader(Frames):
 
     A reader never waits for further bytes if some have arrived. From a serial port it reads `in_waiting` bytes, or 1
     byte if none are waiting. For a socket it calls `recv`, for a buffered file `read1`, and for any other object
-    `read`, each with 65536 as the size. These methods must return the bytes that have arrived, no bytes at the end of
-    the input, or None if no bytes have arrived.
+    `read`, each with 65536 as the size. Each of these methods must return the bytes that have arrived, or None if no
+    bytes have arrived, or empty bytes at the end of the input.
     """
 
     def __init__(
@@ -232,8 +233,9 @@ class FrameReader(Frames):
 
         Raises EOFError at the end of the stream.
 
-        Without `timeout`, the call waits as long as a read of the port, socket or file itself waits. The call then
-        returns None if the timeout of the port or socket has passed, or if a non-blocking file or socket has no bytes.
+        Without `timeout`, the call waits as long as the port, socket or file itself waits in a read. In this case the
+        call returns None if the timeout of the port or socket has passed, or if a non-blocking file or socket has no
+        bytes.
 
         With `timeout`, the call doesn't notice bytes that are in the buffer of a buffered file, for example after a
         `readline`. Open such a file with `buffering=0`, or pass these bytes to a `Decoder`. If a socket has a timeout,
@@ -250,8 +252,8 @@ class FrameReader(Frames):
         EOFError: the stream ended
         """
         deadline = Deadline(timeout)
-        # This is the code of `alone`. If `alone` were used, the outcome would be the value that a call returns. Such a
-        # value can be lost: see below.
+        # The code of `alone` is repeated here. `alone` itself would return the outcome as the value of a call, and such
+        # a value can be lost: see below.
         calls, mine = self._calls.setdefault("reader", []), sys._getframe()
         try:
             if not begins(calls, mine):
@@ -263,7 +265,7 @@ class FrameReader(Frames):
                     return None
                 if not chunk and not self._pending:
                     raise self._end()
-            # `popleft` isn't used: a signal handler may raise an exception after a call, and the value is then lost
+            # `popleft` isn't used: if a signal handler raises an exception after a call, the call's value is lost
             outcome = self._pending[0]
             del self._pending[0]
             return outcome
@@ -359,9 +361,9 @@ class FrameReader(Frames):
         is true, the bytes that have already arrived are dropped before the message is sent, so that they aren't
         mistaken for the reply.
 
-        A late reply to an earlier request may arrive after this message is sent. The late reply is mistaken for the
-        reply to this message, because a frame doesn't say which request it replies to. If that can happen, number the
-        requests.
+        A late reply to an earlier request may arrive after this message is sent. Then the late reply is mistaken for
+        the reply to this message, because a frame doesn't say which request it replies to. If that can happen, number
+        the requests.
         """
         Deadline(timeout)
         if discard:
@@ -375,7 +377,7 @@ def frames(
 ) -> FrameReader:
     """Returns an iterator over the outcomes of the frames in a bytes-like object, or in a binary file such as a log.
 
-    The bytes are read and decoded in chunks of up to 65536 bytes, when the outcomes are needed. The iterator is a
+    The bytes are read and decoded in chunks of up to 65536 bytes, as the outcomes are needed. The iterator is a
     `FrameReader`. Its `messages` method skips frames that are broken or too long. At the end of the iteration, its
     `unfinished` property says whether the last frame was cut off.
 

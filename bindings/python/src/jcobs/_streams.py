@@ -1,4 +1,4 @@
-"""Streams of frames, and messages that come in chunks."""
+"""Decodes streams of frames, and encodes messages that come in chunks."""
 
 from __future__ import annotations
 
@@ -11,7 +11,7 @@ if TYPE_CHECKING:
 
 
 class Message(core.Outcome):
-    """A decoded message. `data` is its bytes. A `Message` is true even if it has no bytes.
+    """A decoded message. `data` is the message's bytes. A `Message` is true even if it has no bytes.
 
     >>> message = jcobs.Message(b"hi")
     >>> message.data, bytes(message), len(message)
@@ -64,8 +64,8 @@ class Decoder(Coder):
     `max_length` is the length in bytes of the longest message. The decoder allocates `max_length` bytes when it is
     created. A frame that is broken or too long never affects the next frame.
 
-    A decoder is for one thread at a time: while a call is running, each method raises RuntimeError in other threads and
-    in signal handlers.
+    Only one thread at a time may use a decoder. While a call is running, each method raises RuntimeError in other
+    threads and in signal handlers.
     """
 
     __slots__ = ("_core",)
@@ -119,9 +119,9 @@ class Decoder(Coder):
 class Encoder(Coder):
     """Encodes messages that come in chunks.
 
-    `max_length` is the length in bytes of the longest message. When the encoder is created, it allocates memory for
-    the frame of a message of this length. In plain Python it allocates memory for the message instead of the frame. An
-    encoder is for one thread at a time, like a `Decoder`.
+    `max_length` is the length in bytes of the longest message. When the encoder is created, it allocates memory for the
+    frame of a message of this length. In plain Python it allocates memory for the message instead of the frame. Like a
+    `Decoder`, an encoder may be used by only one thread at a time.
 
     >>> encoder = jcobs.Encoder()
     >>> encoder.feed(b"hel")

@@ -4,10 +4,10 @@
 >>> cobs.decode(cobs.encode(b"hello"))
 b'hello'
 
-As in `cobs`, the argument of `decode` is a frame without a sentinel after it; if the argument is empty, the result is
-empty bytes. If the argument contains a zero or breaks off inside a block, `decode` raises a `DecodeError` of this
-module, with the text that `cobs` uses. Both functions raise TypeError for a str. This package doesn't implement COBS/R.
-If a script imports `cobs.cobsr`, which implements COBS/R, keep the package `cobs`.
+As in the package `cobs`, the argument of `decode` is a frame without a sentinel after it. If the argument is empty, the
+result is empty too. If the argument contains a zero or breaks off inside a block, `decode` raises a `DecodeError` of
+this module, with the text that `cobs` uses. Both functions raise TypeError for a str. This package doesn't implement
+COBS/R. If a script imports `cobs.cobsr`, which implements COBS/R, keep the package `cobs`.
 """
 
 from __future__ import annotations
