@@ -2,7 +2,7 @@
  * Consistent Overhead Byte Stuffing (COBS), implemented by the proved code in cobs.wasm.
  *
  * A call throws:
- * - a TypeError if an argument that must be `Bytes` isn't, or if you pass an option that the call doesn't have;
+ * - a TypeError if an argument that must be `Bytes` has another type, or if you pass an option that the call doesn't have;
  * - a RangeError if a `sentinel`, a `maxLength` or a length isn't an allowed number;
  * - an Error if the module isn't loaded.
  */
