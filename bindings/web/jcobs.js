@@ -99,8 +99,8 @@ export function decode(frame, options) {
 }
 
 /**
- * Returns "canonical" for a frame that `encode` returns, "longer" for a frame whose last block has only its code, 01, and isn't
- * needed, and "notAFrame" for bytes that aren't a frame.
+ * Returns "canonical" if the bytes are a frame that `encode` returns, "longer" if they are such a frame followed by a needless
+ * block, which has only its code, 01, and "notAFrame" if they aren't a frame.
  */
 export function frameKind(frame, options) {
   const bytes = bytesOf(frame);
@@ -160,7 +160,7 @@ export class FrameDecoder {
     this.#decoder = this.#held.arena.machine.decoder(this.#held.state, this.#held.buffer, maxLength);
   }
 
-  /** Whether a frame has begun, and no sentinel has ended it yet. */
+  /** Whether a frame has begun but no sentinel has ended it yet. */
   get unfinished() {
     return this.#held.isOpen ? !this.#decoder.isIdle() : this.#wasUnfinished;
   }
@@ -402,7 +402,7 @@ export class FrameDecoderStream {
   }
 
   /**
-   * Whether a frame has begun, and no sentinel has ended it yet. At the end of the stream, the value says whether the last
+   * Whether a frame has begun but no sentinel has ended it yet. At the end of the stream, the value says whether the last
    * frame was cut off.
    */
   get unfinished() {

@@ -162,7 +162,8 @@ fn bits(mask: &[u8]) -> u64 {
 mod portable {
     pub const HAS_VECTORS: bool = false;
 
-    // In WebAssembly `core::array::from_fn` isn't inlined, and the call costs more than the comparison.
+    // `core::array::from_fn` isn't used: in WebAssembly it isn't inlined, and calling it takes longer than the
+    // comparison.
     #[inline(always)]
     pub fn equal(bytes: [u8; 16], other: [u8; 16]) -> [u8; 16] {
         let mut mask = [0; 16];

@@ -127,8 +127,12 @@ export function encodeInto(message: Bytes, dest: Bytes, options?: EncodeOptions)
 export function decode(frame: Bytes, options?: SentinelOptions): Uint8Array;
 
 /**
- * Returns "canonical" for a frame that `encode` returns, "longer" for a frame whose last block has only its code, 01, and isn't
- * needed, and "notAFrame" for bytes that aren't a frame. Pass the bytes without the sentinels before and after them.
+ * Returns one of these words:
+ * - "canonical" if the bytes are a frame that `encode` returns;
+ * - "longer" if the bytes are such a frame, followed by a needless block that has only its code, 01;
+ * - "notAFrame" if the bytes aren't a frame.
+ *
+ * Pass the bytes without the sentinels before and after them.
  */
 export function frameKind(frame: Bytes, options?: SentinelOptions): "canonical" | "longer" | "notAFrame";
 
@@ -150,7 +154,7 @@ export class FrameDecoder {
    * @throws Error if the decoder is closed, or if `visit` calls `push`
    */
   push(chunk: Bytes, visit: (outcome: Outcome, end: number) => void): void;
-  /** Whether a frame has begun, and no sentinel has ended it yet. */
+  /** Whether a frame has begun but no sentinel has ended it yet. */
   get unfinished(): boolean;
   /** How many bytes `skipFirst` has skipped, including the first sentinel. */
   get skipped(): number;
@@ -190,7 +194,7 @@ export class FrameDecoderStream {
   readonly readable: ReadableStream<Outcome>;
   readonly writable: WritableStream<Bytes>;
   /**
-   * Whether a frame has begun, and no sentinel has ended it yet. At the end of the stream, the value says whether the last frame
+   * Whether a frame has begun but no sentinel has ended it yet. At the end of the stream, the value says whether the last frame
    * was cut off.
    */
   get unfinished(): boolean;

@@ -36,7 +36,7 @@ class FrameDecoderTransform extends Transform {
     done(error);
   }
 
-  /** Whether a frame has begun, and no sentinel has ended it yet. */
+  /** Whether a frame has begun but no sentinel has ended it yet. */
   get unfinished() {
     return this.#decoder?.unfinished ?? false;
   }

@@ -7,7 +7,7 @@ import type { DecoderOptions, SentinelOptions } from "./jcobs.cjs";
  */
 export class FrameDecoderTransform extends Transform {
   constructor(options?: DecoderOptions);
-  /** Whether a frame has begun, and no sentinel has ended it yet. */
+  /** Whether a frame has begun but no sentinel has ended it yet. */
   get unfinished(): boolean;
   /** How many bytes `skipFirst` has skipped, including the first sentinel. */
   get skipped(): number;

@@ -95,10 +95,10 @@ macro_rules! decoder_methods {
         ///
         /// - [`DecodeError::InvalidFrame`]: the frame breaks off inside a block. The call has consumed the bytes up to
         ///   and including the zero that ends the frame.
-        /// - [`DecodeError::TargetBufTooSmall`]: the message is longer than the buffer. The push that contains the
-        ///   first byte that doesn't fit returns this error. So does each later push that isn't empty, until a push
-        ///   contains the zero that ends the frame. This last push returns the error too, and consumes the bytes up to
-        ///   and including the zero. Each earlier push consumes all its bytes.
+        /// - [`DecodeError::TargetBufTooSmall`]: the message is longer than the buffer. The push with the first byte
+        ///   that doesn't fit returns this error. So does each later push that isn't empty, until a push contains the
+        ///   zero that ends the frame. This last push returns the error too, and consumes the bytes up to and including
+        ///   the zero. Each earlier push consumes all its bytes.
         ///
         /// After an error, continue with the bytes from index [`parsed_size`](Self::parsed_size) on. If you do, a
         /// broken frame never affects another frame.
