@@ -181,7 +181,7 @@ impl FusedIterator for DecodeStreamInPlace<'_> {}
 ///
 /// # Errors
 ///
-/// [`AllocError`]: memory for the stream ran out. The stream is longer after each message, so it needs more memory.
+/// [`AllocError`]: memory for the stream ran out. Each message makes the stream longer, so it needs more memory.
 #[cfg(feature = "alloc")]
 pub fn encode_frames<I>(messages: I) -> Result<Vec<u8>, AllocError>
 where
