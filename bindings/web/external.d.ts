@@ -1,2 +1,2 @@
-// Declares the types of jcobs/external for a module resolution that doesn't read "exports", such as TypeScript's `node`.
+// Declares the types of jcobs/external for a module resolution that doesn't read the field "exports" of package.json, such as TypeScript's `node`.
 export * from "./jcobs.js";

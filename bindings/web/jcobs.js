@@ -5,15 +5,15 @@
 //     const frame = encode(Uint8Array.of(10, 11, 0, 12));            // 3 10 11 2 12
 //     const frames = port.readable.pipeThrough(new FrameDecoderStream({ maxLength: 4096 }));
 //
-// This file copies bytes into the module's memory, and copies results out of that memory. Only the module decides which bytes a
-// frame has, and which messages a stream has.
+// This file copies bytes into the module's memory, and copies results out of the module's memory. Only the module decides which
+// bytes a frame has, and which messages a stream has.
 import { BROKEN, CHUNK_SIZE, CobsError, KINDS, NEAR, OK, STATE_SIZE, TOO_SMALL, bytesOf, loaded, machineFor } from "./machine.js";
 
 export { CobsError, isSupported, load, loadSync } from "./machine.js";
 
 /**
- * Returns the options of a call, with the default for each option that is left out. Throws a TypeError if the call doesn't have
- * one of the options.
+ * Returns the options of a call, with the default value for each option that isn't given. Throws a TypeError if the call doesn't
+ * have one of the given options.
  */
 function optionsOf(given, defaults) {
   if (given === undefined) return defaults;
@@ -49,12 +49,12 @@ export function maxEncodedLength(length) {
 
 /**
  * Returns a length that is enough for the frame of a message of `length` bytes, and for a sentinel after the frame. A frame is at
- * least one byte longer than its message, and each 254 bytes of the message can add one more byte. The returned length has room
- * for one more byte for each 128 bytes.
+ * least one byte longer than its message, and each 254 bytes of the message can add one more byte. The returned length is longer
+ * than necessary: it has one more byte for each 128 bytes of the message.
  */
 const roomFor = (length) => length + Math.floor(length / 128) + 2;
 
-/** Returns the frame of a message, with a sentinel after it if `terminated` is true. */
+/** Returns the frame of a message, followed by a sentinel if `terminated` is true. */
 export function encode(message, options) {
   const { sentinel, terminated } = optionsOf(options, ENCODING);
   const bytes = bytesOf(message);
@@ -66,8 +66,8 @@ export function encode(message, options) {
 }
 
 /**
- * Encodes a message to the front of `dest`, with a sentinel after the frame if `terminated` is true. Returns how many bytes the call
- * has written. If these bytes don't fit, `dest` isn't changed.
+ * Writes the frame of a message to the front of `dest`, followed by a sentinel if `terminated` is true. Returns how many bytes the
+ * call has written. If the bytes to write don't fit `dest`, throws a RangeError and doesn't change `dest`.
  */
 export function encodeInto(message, dest, options) {
   const front = bytesOf(dest);
@@ -98,7 +98,10 @@ export function decode(frame, options) {
   throw new CobsError("empty", "there is no frame to decode: there are no bytes, or only sentinels");
 }
 
-/** Returns "canonical" for a frame that `encode` returns, "longer" for a frame that ends in a needless block 01, and otherwise "notAFrame". */
+/**
+ * Returns "canonical" if the bytes are a frame that `encode` returns, "longer" if they are such a frame followed by a needless
+ * block, which has only its code, 01, and "notAFrame" if they aren't a frame.
+ */
 export function frameKind(frame, options) {
   const bytes = bytesOf(frame);
   const { sentinel } = optionsOf(options, DECODING);
@@ -110,8 +113,8 @@ export function frameKind(frame, options) {
 const abandoned = typeof FinalizationRegistry === "function" ? new FinalizationRegistry(({ arena, place }) => arena.give(place)) : null;
 
 /**
- * A place in the shared memory for a state, a chunk and a buffer. `close` frees the place. If the owner of the place, a decoder
- * or an encoder, is garbage-collected, the place is freed too.
+ * A place in the shared memory for a state, a chunk and a buffer. The owner of the place is a decoder or an encoder. `close` frees
+ * the place. The place is also freed if its owner is garbage-collected.
  */
 class Held {
   #place;
@@ -157,7 +160,7 @@ export class FrameDecoder {
     this.#decoder = this.#held.arena.machine.decoder(this.#held.state, this.#held.buffer, maxLength);
   }
 
-  /** Whether a frame has begun, and no sentinel has ended it yet. */
+  /** Whether a frame has begun but no sentinel has ended it yet. */
   get unfinished() {
     return this.#held.isOpen ? !this.#decoder.isIdle() : this.#wasUnfinished;
   }
@@ -168,10 +171,10 @@ export class FrameDecoder {
   }
 
   /**
-   * Decodes a chunk, and calls `visit(outcome, end)` for each piece that ends in the chunk. `end` is the index in the chunk right
-   * after the sentinel of the piece. If `visit` closes the decoder, `push` doesn't call `visit` again. If `visit` throws an
-   * error, `push` decodes the rest of the chunk without calling `visit`, and then throws this error. So the next chunk is decoded
-   * as if `visit` had thrown nothing.
+   * Decodes a chunk, and calls `visit(outcome, end)` for each piece that ends in the chunk. `end` is the index, counted from the
+   * start of the chunk, of the byte after the piece's sentinel. If `visit` closes the decoder, `push` doesn't call `visit` again.
+   * If `visit` throws an error, `push` decodes the rest of the chunk without calling `visit`, and then throws this error. So the
+   * error doesn't change how the next chunk is decoded.
    */
   push(chunk, visit) {
     if (!this.#held.isOpen || this.#isClosing) throw new Error("the decoder is closed");
@@ -191,7 +194,7 @@ export class FrameDecoder {
     if (fault.isThrown) throw fault.thrown;
   }
 
-  /** Returns the index in a chunk at which decoding begins. */
+  /** Returns the index, counted from the start of a chunk, at which decoding begins. */
   #skip(bytes) {
     if (!this.#isSkipping) return 0;
     const at = bytes.indexOf(this.#sentinel);
@@ -237,8 +240,8 @@ export class FrameDecoder {
 }
 
 /**
- * Returns an iterator over the outcomes of the pieces of `bytes`. The property `end` of an outcome is the index in `bytes` right
- * after the sentinel of the piece.
+ * Returns an iterator over the outcomes of the pieces of `bytes`. The property `end` of an outcome is the index in `bytes` of the
+ * byte after the piece's sentinel.
  */
 export function frames(bytes, options) {
   const view = bytesOf(bytes);
@@ -293,7 +296,7 @@ export class FrameEncoder {
     this.#taken += bytes.length;
   }
 
-  /** Ends the message and returns its frame, with a sentinel after the frame if `terminated` is true. The next `push` begins another message. */
+  /** Ends the message and returns its frame, followed by a sentinel if `terminated` is true. The next `push` begins another message. */
   finish(options) {
     this.#demandOpen();
     const { terminated } = optionsOf(options, { terminated: false });
@@ -320,16 +323,16 @@ export class FrameEncoder {
 }
 
 /**
- * Makes the two ends of a stream, `readable` and `writable`, like those of a TransformStream. `take` is called with each chunk
- * and a function `give`, to which `take` passes each result. `close` is called once, however the stream ends. A TransformStream
- * isn't enough, because some engines don't inform its transformer when the stream is cancelled or aborted.
+ * Makes the two ends of a stream, `readable` and `writable`, like those of a TransformStream. For each chunk, `take` is called
+ * with the chunk and a function `give`. `take` calls `give` with each result. `close` is called once, however the stream ends. A
+ * TransformStream isn't used, because some engines don't inform its transformer when the stream is cancelled or aborted.
  */
 function ends(take, close) {
   const link = { take, close, out: null, into: null, wake: () => {}, isWanted: false, isOver: false, reason: undefined };
   return { readable: readableOf(link), writable: writableOf(link) };
 }
 
-/** Makes the stream fail for this reason. `end` is the controller of the end, readable or writable, to which the reason is passed. */
+/** Makes the stream fail with this reason. The reason is passed to `end`, the controller of the readable end or of the writable end. */
 function fail(link, end, reason) {
   if (link.isOver) return;
   link.isOver = true;
@@ -355,7 +358,7 @@ function writableOf(link) {
   return new WritableStream({
     start(controller) {
       link.into = controller;
-      // the engine calls `abort` below only after the current write has ended, and this write may be waiting for a reader
+      // `abort` below isn't enough: the engine calls it only after the current write, and that write may wait for a reader
       const { signal } = controller;
       signal?.addEventListener("abort", () => fail(link, link.out, signal.reason));
     },
@@ -383,7 +386,7 @@ function writableOf(link) {
   });
 }
 
-/** Turns bytes into outcomes: `{message}`, `{broken: n}` or `{tooLong: true}` for each piece that a sentinel ends. */
+/** Turns bytes into outcomes. For each piece that a sentinel ends, the outcome is `{message}`, `{broken: n}` or `{tooLong: true}`. */
 export class FrameDecoderStream {
   #decoder;
 
@@ -399,7 +402,7 @@ export class FrameDecoderStream {
   }
 
   /**
-   * Whether a frame has begun, and no sentinel has ended it yet. At the end of the stream, the value says whether the last
+   * Whether a frame has begun but no sentinel has ended it yet. At the end of the stream, the value says whether the last
    * frame was cut off.
    */
   get unfinished() {

@@ -1,5 +1,5 @@
-// Loads the proved module, calls its functions, and keeps track of the free places in its memory. Only this file uses the names
-// that the module exports. jcobs.js has the calls that users make.
+// Loads the proved module, calls the module's functions, and keeps track of the free places in the module's memory. Only this file
+// uses the names that the module exports. jcobs.js has the calls that users make.
 
 // enum jcobs_status and enum jcobs_kind of jcobs.h
 export const OK = 0;
@@ -12,8 +12,8 @@ const ANSWER_SIZE = 64;              // bytes for a jcobs_answer, at the front o
 const SCRATCH_SIZE = 1 << 22;        // bytes of memory for a call; a call that needs more gets a separate memory
 export const STATE_SIZE = 64;        // bytes for a jcobs_decoder or a jcobs_encoder
 export const CHUNK_SIZE = 1 << 14;          // how many bytes of a stream are copied into the module at a time
-export const NEAR = 1024;             // a call of at most this many bytes is short; the results of short calls have a fixed place
-const LONG = 4096;                   // a result of at least this many bytes isn't copied with `slice`
+export const NEAR = 1024;             // a call is short if it gets at most this many bytes; short calls write their results to a fixed place
+const LONG = 4096;                   // a result of at least this many bytes is copied without `slice`
 const MEMORY_LIMIT = 2 ** 32;        // the first address that doesn't fit in the module's 32 bits
 
 /** The names that cobs.wasm exports. */
@@ -33,7 +33,7 @@ const CALLS = [
   "jcobs_encoder_finish",
 ];
 
-/** Says why a call failed. `kind` is "empty", "broken" or "unsupported"; `decodedBytes` is how many bytes a broken frame decodes to. */
+/** The error of a call that failed. `kind` is "empty", "broken" or "unsupported". `decodedBytes` is how many bytes a broken frame decodes to. */
 export class CobsError extends Error {
   constructor(kind, message, decodedBytes = 0) {
     super(message);
@@ -45,7 +45,7 @@ export class CobsError extends Error {
 
 const SMALL = Array.from({ length: NEAR + 64 }, (_, number) => BigInt(number));
 
-/** Returns a number as a BigInt, for the module. Making a BigInt costs more than a short call, so the BigInts of small numbers are kept. */
+/** Returns a number as a BigInt, for the module. Making a BigInt takes longer than a short call, so the BigInts of small numbers are made only once. */
 const word = (number) => (number < SMALL.length ? SMALL[number] : BigInt(number));
 
 /** An instance of the module, with calls whose arguments are addresses in its memory. */
@@ -93,7 +93,7 @@ class Machine {
 
   /** Returns a copy of the bytes at an address. */
   read(at, length) {
-    // the constructor copies many bytes in half the time that `slice` needs, because `slice` first clears the copy
+    // for many bytes, the constructor needs only half as much time as `slice`, because `slice` first clears the copy
     if (length < LONG) return this.#bytes.slice(at, at + length);
     return new Uint8Array(this.#bytes.subarray(at, at + length));
   }
@@ -107,7 +107,7 @@ class Machine {
     return Number(this.#calls.jcobs_max_length(BigInt(length)));
   }
 
-  /** Returns the address for the result of a call with `length` bytes, which are at `scratchAt`. */
+  /** Returns the address to which a call writes its result if `length` bytes are passed to it at `scratchAt`. */
   placeAfter(length) {
     return this.scratchAt + Math.max(length, NEAR);
   }
@@ -165,20 +165,20 @@ class Machine {
     };
   }
 
-  /** Returns the jcobs_answer of the last call: a 32-bit number, followed by two 64-bit numbers, each with its low half first. */
+  /** Returns the jcobs_answer of the last call. It is a 32-bit number, followed by two 64-bit numbers, whose low halves come first. */
   #answer() {
     const words = this.#words;
     return { status: words[0], consumed: words[2] + words[3] * 0x100000000, length: words[4] + words[5] * 0x100000000 };
   }
 }
 
-/** A small module with a function that copies within its memory. Such copying is the newest feature of WebAssembly that cobs.wasm uses. */
+/** A small module with a function that copies bytes within its memory (memory.copy). No feature of WebAssembly that cobs.wasm uses is newer than this copying. */
 const PROBE = Uint8Array.of(
   ...[0, 0x61, 0x73, 0x6d, 1, 0, 0, 0, 1, 4, 1, 0x60, 0, 0, 3, 2, 1, 0, 5, 3, 1, 0, 1],
   ...[10, 14, 1, 12, 0, 0x41, 0, 0x41, 0, 0x41, 0, 0xfc, 10, 0, 0, 0x0b],
 );
 
-/** Returns the reason why cobs.wasm doesn't run here, or "" if it does run. */
+/** Returns the reason why cobs.wasm can't run here, or "" if it can. */
 function obstacle() {
   const hasAll = typeof WebAssembly === "object" && typeof BigInt64Array === "function" && WebAssembly.validate(PROBE);
   if (!hasAll) return "this engine lacks the WebAssembly that cobs.wasm needs, which browsers have since 2021 and Node since 16";
@@ -190,7 +190,7 @@ function obstacle() {
   }
 }
 
-/** Returns whether cobs.wasm runs here. */
+/** Returns whether cobs.wasm can run here. */
 export const isSupported = () => obstacle() === "";
 
 let compiled;
@@ -202,7 +202,7 @@ let loading;
  * except `isSupported` needs the module. Once the module is loaded, or is being loaded, a further call changes nothing.
  */
 export function load(source) {
-  // moduleAddress() isn't the parameter's default value, because in dist/ it decodes the whole module, and should do so only once
+  // moduleAddress() isn't the parameter's default value: in dist/ it decodes the whole module, so it should be called only once
   loading ??= loadFrom(source === undefined ? moduleAddress() : source).catch((error) => {
     loading = undefined;
     throw error;
@@ -232,7 +232,7 @@ async function loadFrom(source) {
   demandSupport();
   const module = await moduleOf(source);
   demandCalls(module);
-  // `new WebAssembly.Instance` isn't used: Chrome before version 115 doesn't allow it on the main thread for a module of this size
+  // `new WebAssembly.Instance` isn't used, because on the main thread, Chrome before version 115 doesn't allow it for a module of this size
   const instance = await WebAssembly.instantiate(module, {});
   if (!shared) keep(module, instance);
 }
@@ -242,7 +242,7 @@ function demandCalls(module) {
   if (!CALLS.every((name) => names.has(name))) throw new TypeError("the module isn't this version's cobs.wasm");
 }
 
-/** Keeps the module, and the instance that all calls share from now on. */
+/** Stores the module, and the instance that all calls share from now on. */
 function keep(module, instance) {
   shared = new Arena(new Machine(instance));
   compiled = module;
@@ -261,10 +261,10 @@ async function moduleOf(given) {
   return WebAssembly.compile(files ? await files.promises.readFile(url) : await bytesOfResponse(await fetch(url)));
 }
 
-/** Returns Node's module `fs` if `url` is the address of a file. The module isn't imported, because bundlers for browsers can't resolve it. */
+/** Returns Node's module `fs` if `url` is the address of a file. An `import` of `fs` isn't used, because bundlers for browsers can't resolve it. */
 const filesFor = (url) => (url.protocol === "file:" ? globalThis.process?.getBuiltinModule?.("node:fs") : undefined);
 
-/** Returns the bytes of the file at an address. Only Node can read a file without a promise. */
+/** Returns the bytes of the file at an address. This works only in Node, because browsers can't read a file without a promise. */
 function fileAt(source) {
   const files = source instanceof URL ? filesFor(source) : undefined;
   if (!files) throw new TypeError("loadSync takes bytes or a compiled module; load fetches from an address");
@@ -302,7 +302,7 @@ class Arena {
     return place;
   }
 
-  /** Frees a place. Adjacent free places become one, so that `take` can use all their bytes for one place. */
+  /** Frees a place, and joins it with the free places next to it, so that `take` can use all their bytes for one place. */
   give({ at, size }) {
     const free = this.#free;
     let next = this.#firstAfter(at);
@@ -335,7 +335,7 @@ export function loaded() {
   return shared;
 }
 
-/** Returns a machine with `size` free bytes at `scratchAt`: the shared machine, or a new one for a call that needs more bytes. */
+/** Returns a machine with `size` free bytes at `scratchAt`: the shared machine, or a new one if the shared machine has fewer bytes. */
 export function machineFor(size) {
   const { machine } = loaded();
   if (size <= SCRATCH_SIZE) return machine;
@@ -358,11 +358,11 @@ export function bytesOf(source) {
   throw new TypeError("bytes must be a Uint8Array, another view, or an ArrayBuffer");
 }
 
-/** Returns whether a view has lost its bytes. The length of such a view is 0, like the length of an empty view. */
+/** Returns whether a view has lost its bytes. Its length is then 0, like the length of an empty view. */
 function isGone(view) {
   try {
     if ("length" in view && view.length === 0) Uint8Array.prototype.indexOf.call(view, 0); // throws for a view that is out of bounds
-    return view.byteLength < 0; // throws for such a DataView
+    return view.byteLength < 0; // throws for a DataView that is out of bounds
   } catch {
     return true;
   }

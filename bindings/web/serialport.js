@@ -1,10 +1,10 @@
-// Offers COBS as streams of Node. They can be piped from and to a port of the package serialport:
+// Offers COBS as streams of Node. You can pipe them from and to a port of the package serialport:
 //
 //     port.pipe(new FrameDecoderTransform({ skipFirst: true })).on("data", ({ message }) => ..);
 import { Transform } from "node:stream";
 import { FrameDecoder, encode, load } from "./dist/node.js";
 
-/** Turns bytes into outcomes: `{message}`, `{broken: n}` or `{tooLong: true}` for each piece that a sentinel ends. */
+/** Turns bytes into outcomes. For each piece that a sentinel ends, the outcome is `{message}`, `{broken: n}` or `{tooLong: true}`. */
 export class FrameDecoderTransform extends Transform {
   #options;
   #decoder;
@@ -35,7 +35,7 @@ export class FrameDecoderTransform extends Transform {
     done(error);
   }
 
-  /** Whether a frame has begun, and no sentinel has ended it yet. */
+  /** Whether a frame has begun but no sentinel has ended it yet. */
   get unfinished() {
     return this.#decoder?.unfinished ?? false;
   }

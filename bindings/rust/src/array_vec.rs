@@ -1,4 +1,4 @@
-//! A vector of up to `N` bytes, which are stored in an array inside the vector.
+//! Defines a vector of up to `N` bytes, which are stored in an array inside the vector.
 
 use core::fmt;
 use core::ops::{Deref, DerefMut};

@@ -14,11 +14,11 @@ use crate::dec::{DecodeError, UnbufferedDecoder};
 /// The codec decodes the bytes as they arrive. So it keeps at most `max_len` bytes of a message, even if the frame is
 /// longer.
 ///
-/// An item of the stream is a message, or the error that [`MessageReader`](crate::MessageReader) would return for a
-/// frame that is broken or too long. Such a frame never affects another frame. If the source returns an error, the
-/// stream returns this error and ends. If the source ends inside a frame, the stream returns
-/// [`UnexpectedEof`](ErrorKind::UnexpectedEof) and ends. For each message, the sink sends the frame of the message, and
-/// then a zero. The crate `cobs` doesn't have this type.
+/// Each item of the stream is a message, or an error for a frame that is broken or too long. It is the error that
+/// [`MessageReader`](crate::MessageReader) would return for this frame. Such a frame never affects another frame. If
+/// the source returns an error, the stream returns this error and ends. If the source ends inside a frame, the stream
+/// returns [`UnexpectedEof`](ErrorKind::UnexpectedEof) and ends. For each message, the sink sends the frame of the
+/// message, and then a zero. The crate `cobs` doesn't have this type.
 ///
 /// ```
 /// use bytes::BytesMut;
@@ -86,7 +86,7 @@ impl<M: AsRef<[u8]>> Encoder<M> for MessageCodec {
         let message = message.as_ref();
         let room = crate::max_encoding_length(message.len()) + 1;
         bytes.reserve(room);
-        // Splits off the spare room of `bytes`, writes the frame into it, and joins it to `bytes` again.
+        // Splits off the spare capacity of `bytes`, writes the frame into it, and joins it to `bytes` again.
         let mut frame = bytes.split_off(bytes.len());
         frame.resize(room, 0);
         let len = crate::encode(message, &mut frame);

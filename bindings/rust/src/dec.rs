@@ -20,8 +20,8 @@ impl Default for UnbufferedDecoder {
     }
 }
 
-/// Returns the [`DecodeError`] that the [`PushError`] contains. So a function that returns a `DecodeError` can use `?`
-/// after a push to any of the decoders:
+/// Returns the [`DecodeError`] that the [`PushError`] contains. So in a function that returns a `DecodeError`, a push
+/// to any of the decoders can be followed by `?`:
 ///
 /// ```
 /// use jcobs::{DecodeError, UnbufferedDecoder};
@@ -44,8 +44,7 @@ impl From<PushError> for DecodeError {
 }
 
 impl PieceEnd {
-    /// Returns the length of the piece's message, or the error that a decoder returns for a piece that ended in this
-    /// way.
+    /// Returns the length of the piece's message, or the error that a decoder returns if a piece ends like this one.
     ///
     /// ```
     /// use jcobs::{DecodeError, PieceEnd};
@@ -92,8 +91,8 @@ pub type DecodingResult = DecodeReport;
 /// frame if there is one.
 ///
 /// If a frame was cut off between two blocks, the bytes before the cut are a shorter frame, and are decoded without an
-/// error. If your protocol ends each frame with a zero, you can detect such a cut: the byte of `source` at index
-/// `parsed_size - 1` isn't a zero.
+/// error. If your protocol ends each frame with a zero, you can detect such a cut, because then the byte of `source` at
+/// index `parsed_size - 1` isn't a zero.
 ///
 /// ```
 /// let mut dest = [0; 8];
@@ -173,8 +172,8 @@ pub fn decode_in_place_report(buf: &mut [u8]) -> Result<DecodeReport, DecodeErro
 /// - [`DecodeError::EmptyFrame`]: `source` is empty.
 /// - [`DecodeError::InvalidFrame`]: the frame breaks off inside a block. Then `dest` begins with the output of the
 ///   blocks before the broken block, and `decoded_bytes` is the length of this output.
-/// - [`DecodeError::TargetBufTooSmall`]: the message is longer than `dest`, or the frame breaks off and the output of
-///   its whole blocks is longer than `dest`. In both cases `dest` then holds the first bytes of that message or output.
+/// - [`DecodeError::TargetBufTooSmall`]: the message is longer than `dest`; or the frame breaks off, and the output of
+///   its whole blocks is longer than `dest`. Then `dest` holds the first bytes of this message or of this output.
 #[inline]
 pub fn decode_with_sentinel(
     source: &[u8],

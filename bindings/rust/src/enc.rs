@@ -97,8 +97,8 @@ pub fn try_encode_including_sentinels(
 }
 
 /// Encodes `source` with the given sentinel, writes the frame to the front of `dest`, and returns the frame's length in
-/// bytes. The bytes of this frame are the bytes of the frame for the sentinel 0, each XORed with `sentinel`. The bytes
-/// of `dest` after the frame stay as they are.
+/// bytes. This frame is the frame for the sentinel 0, with each byte XORed with `sentinel`. The bytes of `dest` after
+/// the frame stay as they are.
 ///
 /// ```
 /// let mut dest = [0; 4];
@@ -162,8 +162,8 @@ pub fn try_encode_with_sentinel(
     proved::try_encode_with_sentinel(source, dest, sentinel)
 }
 
-/// Returns a vector of zeros. It has room for the frame of any message with as many bytes as `source`, and for `more`
-/// bytes after the frame.
+/// Returns a vector of zeros. The vector has room for any frame of a message that is as long as `source`, and for
+/// `more` bytes after the frame.
 #[cfg(feature = "alloc")]
 fn room_for(source: &[u8], more: usize) -> alloc::vec::Vec<u8> {
     alloc::vec![0; crate::max_encoding_length(source.len()) + more]

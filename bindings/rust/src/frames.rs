@@ -49,8 +49,8 @@ pub struct Frames<'a> {
 }
 
 impl<'a> Frames<'a> {
-    /// Returns the rest of the stream: the bytes after the frame that `next` returned last, and after the zero that
-    /// ends this frame. After `next` has returned `None`, the result is the bytes after the last zero of the stream.
+    /// Returns the rest of the stream. The rest begins after the zero that ends the last frame that `next` returned.
+    /// After `next` has returned `None`, the rest is the bytes after the last zero of the stream.
     #[inline]
     #[must_use]
     pub const fn remainder(&self) -> &'a [u8] {
@@ -83,7 +83,7 @@ impl<'a> Iterator for Frames<'a> {
 
 impl FusedIterator for Frames<'_> {}
 
-/// Returns a lower and an upper bound of the number of frames in a stream. The upper bound is half of the stream's
+/// Returns a lower and an upper bound for the number of frames in a stream. The upper bound is half of the stream's
 /// length, because each frame has at least one byte, and is followed by a zero.
 #[inline]
 const fn most_frames(stream: &[u8]) -> (usize, Option<usize>) {
@@ -93,7 +93,7 @@ const fn most_frames(stream: &[u8]) -> (usize, Option<usize>) {
 /// Returns an iterator over the messages of a recorded stream. Each frame is decoded in place: the message is written
 /// over the frame, so no other memory is used.
 ///
-/// A zero ends each frame of the stream. For each frame, the item is the message, or an error if the frame is broken. A
+/// A zero ends each frame of the stream. Each frame has one item: its message, or an error if the frame is broken. A
 /// broken frame never affects another frame. The crate `cobs` doesn't have this call.
 ///
 /// ```
@@ -112,8 +112,8 @@ const fn most_frames(stream: &[u8]) -> (usize, Option<usize>) {
 ///
 /// # Errors
 ///
-/// An item is [`DecodeError::InvalidFrame`] if the frame breaks off inside a block. It is the error that
-/// [`decode_in_place`](crate::decode_in_place) returns for the frame.
+/// An item is [`DecodeError::InvalidFrame`] if the frame breaks off inside a block. The item is then the same error
+/// that [`decode_in_place`](crate::decode_in_place) returns for the frame.
 #[inline]
 pub const fn decode_stream_in_place(stream: &mut [u8]) -> DecodeStreamInPlace<'_> {
     DecodeStreamInPlace { rest: stream }
@@ -127,9 +127,8 @@ pub struct DecodeStreamInPlace<'a> {
 }
 
 impl<'a> DecodeStreamInPlace<'a> {
-    /// Returns the rest of the stream: the bytes after the frame that `next` decoded last, and after the zero that ends
-    /// this frame. The rest is unchanged. After `next` has returned `None`, the result is the bytes after the last zero
-    /// of the stream.
+    /// Returns the rest of the stream, unchanged. The rest begins after the zero that ends the last frame that `next`
+    /// decoded. After `next` has returned `None`, the rest is the bytes after the last zero of the stream.
     #[inline]
     #[must_use]
     pub fn into_remainder(self) -> &'a mut [u8] {
@@ -182,15 +181,15 @@ impl FusedIterator for DecodeStreamInPlace<'_> {}
 ///
 /// # Errors
 ///
-/// [`AllocError`]: memory for the stream runs out. The stream grows with each message.
+/// [`AllocError`]: memory for the stream ran out. Each message makes the stream longer, so it needs more memory.
 #[cfg(feature = "alloc")]
 pub fn encode_frames<I>(messages: I) -> Result<Vec<u8>, AllocError>
 where
     I: IntoIterator,
     I::Item: AsRef<[u8]>,
 {
-    // The proved function of this name isn't called, because it takes a slice of vectors: for this slice, each message
-    // would have to be copied to a vector.
+    // The proved function of the same name isn't called, because it takes a slice of vectors. To make this slice, this
+    // function would have to copy each message to a vector.
     let mut stream = Vec::new();
     messages
         .into_iter()

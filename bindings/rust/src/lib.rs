@@ -1,5 +1,5 @@
-//! Encodes and decodes Consistent Overhead Byte Stuffing (COBS), in code that is translated from proved code. The calls
-//! of the crate `cobs` 0.5.1 have the same names and signatures in this crate.
+//! Encodes and decodes Consistent Overhead Byte Stuffing (COBS) with code that is translated from proved code. All
+//! calls of the crate `cobs` 0.5.1 have the same names and signatures in this crate.
 //!
 //! COBS encodes a message, which may be any bytes, as a frame that never contains a certain byte value: the sentinel.
 //! So the sentinel, usually 0, can mark the end of each frame on a serial line or in a file. The frame of a message of
@@ -83,23 +83,23 @@
 //! # What is proved
 //!
 //! The functions of `src/proved/` are translated from the crates `cobs` and `cobs_bytes` in Rattle, which is Rust with
-//! contracts. For a `usize` of 64 bits, each of these functions is proved in Rattle to return the right result, not to
-//! panic, and to end. The other files of `src/` are tested, not proved. They define the calls with the signatures of
-//! the crate `cobs`, choose the proved function that a push calls, and add the types for `std::io` and tokio. Memory
+//! contracts. For a `usize` of 64 bits, each of these functions is proved in Rattle to end without a panic, and to
+//! return the right result. The other files of `src/` are tested, not proved. They define the calls with the signatures
+//! of the crate `cobs`, choose the proved function that a push calls, and add the types for `std::io` and tokio. Memory
 //! safety depends on rustc, on `memchr`, and on the `unsafe` code of `src/simd.rs`. No other file of this crate has
 //! `unsafe` code. With the feature `small`, `src/simd.rs` has no `unsafe` code either.
 //!
 //! # Features
 //!
-//! - `std` (default) turns on the feature `alloc`, and the feature `std` of `memchr`, with which `memchr` uses AVX2 if
-//!   the processor has AVX2. It adds [`MessageReader`], [`MessageWriter`], and [`Recorded`], a [`FrameSource`] over any
-//!   [`std::io::Read`].
+//! - `std` (default) turns on the feature `alloc`. It also turns on the feature `std` of `memchr`, so that `memchr`
+//!   uses AVX2 if the processor has AVX2. `std` also adds [`MessageReader`], [`MessageWriter`], and [`Recorded`], a
+//!   [`FrameSource`] over any [`std::io::Read`].
 //! - `alloc` adds the calls that return a `Vec`, and [`CobsDecoderOwned`].
 //! - With `small`, a call processes one byte at a time on every target (see "Targets"), and the crate has no `unsafe`
 //!   code.
-//! - `serde` and `defmt` derive the traits of the crate `serde` or `defmt` for the errors ([`DecodeError`],
-//!   [`DestBufTooSmallError`], [`PushError`], [`ReadFault`], [`AllocError`]) and for [`DecodeReport`], [`PieceEnd`],
-//!   [`Next`], [`FrameKind`] and `FrameOutcome`.
+//! - `serde` and `defmt` each derive the traits of the crate of the same name. The types with these traits are the
+//!   errors ([`DecodeError`], [`DestBufTooSmallError`], [`PushError`], [`ReadFault`], [`AllocError`]),
+//!   [`DecodeReport`], [`PieceEnd`], [`Next`], [`FrameKind`] and `FrameOutcome`.
 //! - With `heapless`, [`CobsDecoderHeapless::new_with_vec`] accepts a `heapless::Vec`.
 //! - `tokio-util` turns on the feature `std`, and adds `MessageCodec`, a codec for streams and sinks of tokio.
 //!
@@ -107,9 +107,9 @@
 //!
 //! # Targets
 //!
-//! If the target has SSE2, NEON or WebAssembly's SIMD, the calls search and copy many bytes in one step. On every other
-//! target, and with the feature `small`, the calls process one byte at a time, and each call needs only a few hundred
-//! bytes of flash.
+//! If the target has SSE2, WebAssembly's SIMD, or NEON on little-endian aarch64, the calls search and copy many bytes
+//! in one step. On every other target, and with the feature `small`, the calls process one byte at a time, and each
+//! call needs only a few hundred bytes of flash.
 #![no_std]
 #![cfg_attr(feature = "small", forbid(unsafe_code))]
 // With `doc_cfg` the pages of docs.rs say which feature an item needs.

@@ -1,4 +1,4 @@
-//! Allocates memory for the calls that return an error if memory runs out. These calls don't abort the program.
+//! Allocates memory for the calls that return an error, instead of aborting the program, if memory runs out.
 
 #[cfg(feature = "alloc")]
 use alloc::vec::Vec;

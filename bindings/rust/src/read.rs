@@ -8,8 +8,8 @@ use crate::dec::{DecodeError, PieceEnd, UnbufferedDecoder};
 /// Reads messages from a serial port, a socket, a file, or any other source that implements [`BufRead`].
 ///
 /// If the source implements only [`Read`](io::Read), wrap it in a [`BufReader`](std::io::BufReader). A `BufReader` asks
-/// the source for as many bytes as fit into the buffer. If a read returns fewer bytes, the `BufReader` doesn't wait for
-/// more. The crate `cobs` doesn't have this type.
+/// the source for as many bytes as fit into its own buffer. If a read returns fewer bytes, the `BufReader` doesn't wait
+/// for more. The crate `cobs` doesn't have this type.
 ///
 /// ```
 /// use std::io::BufReader;
@@ -30,9 +30,9 @@ use crate::dec::{DecodeError, PieceEnd, UnbufferedDecoder};
 ///
 /// # Ports with a timeout, and ports that don't block
 ///
-/// If the port returns an error, the reader returns this error unchanged, and no byte is lost: the reader keeps the
-/// bytes of a frame that has begun, and the next call continues after these bytes. So a port with a timeout, or a port
-/// that doesn't block, can be read in a loop:
+/// If the port returns an error, the reader returns this error unchanged, and no byte is lost. If a frame has begun,
+/// the reader keeps the bytes of this frame, and the next call continues after these bytes. So a port with a timeout,
+/// or a port that doesn't block, can be read in a loop:
 ///
 /// ```
 /// use std::io::{self, BufRead, ErrorKind};
@@ -88,8 +88,8 @@ impl<R: BufRead> MessageReader<R> {
     ///   again for the next message: such a frame never affects another frame.
     /// - `Ok(None)`: the source has ended, and no frame is unfinished. If the source grows later, call again.
     ///
-    /// Zeros without a frame between them are skipped. The call has no limit on the number of bytes that it reads
-    /// before a zero ends a frame. The bytes of a message that is too long are dropped.
+    /// Zeros without a frame between them are skipped. Before a zero ends a frame, the call may read any number of
+    /// bytes. The bytes of a message that is too long are dropped.
     ///
     /// ```
     /// use jcobs::{DecodeError, MessageReader};

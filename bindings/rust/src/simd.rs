@@ -2,8 +2,8 @@
 //! `std::simd`. This module defines types and methods with the same names.
 //!
 //! The only `unsafe` code of this crate is in this file: it calls SSE2 and NEON intrinsics. With the feature `small`,
-//! the crate has no `unsafe` code. The tests compare every operation with the same operation on single bytes, for each
-//! width from 1 to 64.
+//! the crate has no `unsafe` code. For each width from 1 to 64 bytes, the tests compare every operation on a vector
+//! with the same operation on single bytes.
 
 // rustc turns the loops over indices into vector instructions.
 #![allow(clippy::needless_range_loop)]
@@ -38,9 +38,9 @@ use portable as way;
 ))]
 use sse2 as way;
 
-/// Whether the calls process many bytes in one step, with vectors and operations on slices. They do so if the target
-/// has SSE2, NEON or WebAssembly's SIMD, and the feature `small` is off. Otherwise the calls process one byte at a
-/// time. In the translated code, `has_vectors` returns this constant.
+/// Whether the calls process many bytes in one step, with vectors and operations on slices. This is true if the feature
+/// `small` is off, and the target has SSE2, WebAssembly's SIMD, or NEON on little-endian aarch64. Otherwise the calls
+/// process one byte at a time. In the translated code, `has_vectors` returns this constant.
 pub const HAS_VECTORS: bool = !cfg!(feature = "small")
     && (way::HAS_VECTORS || cfg!(all(target_feature = "simd128", target_family = "wasm")));
 
@@ -125,8 +125,8 @@ impl<const N: usize> Mask<N> {
     }
 }
 
-/// Pads `bytes`, which has at most 16 bytes, with zeros to 16 bytes. If there are fewer than 16 bytes, rustc doesn't
-/// use vector instructions.
+/// Pads `bytes`, which has at most 16 bytes, with zeros to 16 bytes. Without the padding, rustc wouldn't use vector
+/// instructions.
 #[inline(always)]
 fn widened(bytes: &[u8]) -> [u8; 16] {
     let mut wide = [0; 16];
@@ -134,7 +134,7 @@ fn widened(bytes: &[u8]) -> [u8; 16] {
     wide
 }
 
-/// Returns a number with one bit for each byte of the mask. `sixteen` computes the bits of 16 bytes.
+/// Returns a number with one bit for each byte of the mask. `sixteen` computes the bits for 16 bytes of the mask.
 #[inline(always)]
 fn bits_by(mask: &[u8], sixteen: impl Fn(&[u8; 16]) -> u64) -> u64 {
     let (mut bits, mut done) = (0, 0);
@@ -162,7 +162,8 @@ fn bits(mask: &[u8]) -> u64 {
 mod portable {
     pub const HAS_VECTORS: bool = false;
 
-    // In WebAssembly `core::array::from_fn` isn't inlined, and the call costs more than the comparison.
+    // `core::array::from_fn` isn't used: in WebAssembly it isn't inlined, and calling it takes longer than the
+    // comparison.
     #[inline(always)]
     pub fn equal(bytes: [u8; 16], other: [u8; 16]) -> [u8; 16] {
         let mut mask = [0; 16];
@@ -200,9 +201,9 @@ mod sse2 {
 
     pub const HAS_VECTORS: bool = true;
 
-    /// Compares all 16 bytes with one vector instruction, without a loop. If the bytes come from an integer, rustc
-    /// compiles a loop over them to a separate comparison for each byte. With the vector instruction, short messages
-    /// are encoded much faster than with these comparisons.
+    /// Compares all 16 bytes with one vector instruction. A loop isn't used here: if the bytes come from an integer,
+    /// rustc compiles the loop to a separate comparison for each byte. With the vector instruction, short messages are
+    /// encoded much faster than with these comparisons.
     #[inline(always)]
     pub fn equal(bytes: [u8; 16], other: [u8; 16]) -> [u8; 16] {
         // SAFETY: the target has SSE2, and each vector has the 16 bytes of an array.

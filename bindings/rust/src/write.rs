@@ -1,17 +1,18 @@
-//! Writes messages to a port, each message as a frame and a zero.
+//! Writes messages to a port. Each message is written as a frame, followed by a zero.
 
 use std::io::{self, ErrorKind, Write};
 use std::vec::Vec;
 
 use crate::frames::append_frame;
 
-/// The bytes that are written after a frame that was cut off, so that no decoder decodes this frame to a message.
+/// The bytes that are written after a frame that was cut off. They ensure that no decoder decodes this frame to a
+/// message.
 ///
 /// A single zero isn't enough, because a frame that was cut off between two blocks would be decoded as a shorter
-/// message. If the frame was cut off inside a block, the first bytes of `CLOSING` complete this block, of which at most
-/// 254 bytes are missing. If the frame was cut off between two blocks, the first byte of `CLOSING`, 1, is a block that
-/// has only its code. In both cases the next byte of `CLOSING` is the code 255. Fewer than 254 bytes come between this
-/// code and the zero, so the frame is broken.
+/// message. If the frame was cut off inside a block, at most 254 bytes of this block are missing, and the first bytes
+/// of `CLOSING` complete the block. If the frame was cut off between two blocks, the first byte of `CLOSING`, which is
+/// 1, is a block that has only its code. In both cases the next byte of `CLOSING` is the code 255. Fewer than 254 bytes
+/// come between this code and the zero, so the frame is broken.
 const CLOSING: [u8; 256] = {
     let mut bytes = [255; 256];
     bytes[0] = 1;
@@ -36,7 +37,7 @@ const CLOSING: [u8; 256] = {
 #[derive(Debug)]
 pub struct MessageWriter<W> {
     inner: W,
-    /// Memory for the bytes of a write.
+    /// Holds the bytes of a write.
     written: Vec<u8>,
     /// Whether the last write failed. If it failed, a part of its frame may have been written.
     failed: bool,
@@ -56,13 +57,13 @@ impl<W: Write> MessageWriter<W> {
 
     /// Writes the frame of `message` and a zero. The call doesn't flush.
     ///
-    /// If the last write failed, a part of its frame may have been written. Then this call writes 256 bytes before the
-    /// frame, so that no decoder decodes this part to a message. The receiver's decoder reports this part as one frame
-    /// that is broken, or too long for its buffer.
+    /// If the last write failed, a part of its frame may have been written. In that case this call writes 256 bytes
+    /// before the frame of `message`, so that no decoder decodes the part to a message. The receiver's decoder reports
+    /// the part as one frame that is broken, or that is too long for the decoder's buffer.
     ///
     /// # Errors
     ///
-    /// - Every error of [`Write::write_all`]. After such an error, it isn't known how many bytes were written, so write
+    /// - Every error of [`Write::write_all`]. After such an error, it isn't known how many bytes were written. Write
     ///   the message again.
     /// - [`OutOfMemory`](io::ErrorKind::OutOfMemory): nothing was written.
     pub fn write_message(&mut self, message: &[u8]) -> io::Result<()> {

@@ -1,8 +1,8 @@
 // jcobs 1.0.0, with the module inside. Written by pack.mjs from jcobs.js, machine.js and cobs.wasm; edit those.
 var jcobs = (() => {
 "use strict";
-// Loads the proved module, calls its functions, and keeps track of the free places in its memory. Only this file uses the names
-// that the module exports. jcobs.js has the calls that users make.
+// Loads the proved module, calls the module's functions, and keeps track of the free places in the module's memory. Only this file
+// uses the names that the module exports. jcobs.js has the calls that users make.
 
 // enum jcobs_status and enum jcobs_kind of jcobs.h
 const OK = 0;
@@ -15,8 +15,8 @@ const ANSWER_SIZE = 64;              // bytes for a jcobs_answer, at the front o
 const SCRATCH_SIZE = 1 << 22;        // bytes of memory for a call; a call that needs more gets a separate memory
 const STATE_SIZE = 64;        // bytes for a jcobs_decoder or a jcobs_encoder
 const CHUNK_SIZE = 1 << 14;          // how many bytes of a stream are copied into the module at a time
-const NEAR = 1024;             // a call of at most this many bytes is short; the results of short calls have a fixed place
-const LONG = 4096;                   // a result of at least this many bytes isn't copied with `slice`
+const NEAR = 1024;             // a call is short if it gets at most this many bytes; short calls write their results to a fixed place
+const LONG = 4096;                   // a result of at least this many bytes is copied without `slice`
 const MEMORY_LIMIT = 2 ** 32;        // the first address that doesn't fit in the module's 32 bits
 
 /** The names that cobs.wasm exports. */
@@ -36,7 +36,7 @@ const CALLS = [
   "jcobs_encoder_finish",
 ];
 
-/** Says why a call failed. `kind` is "empty", "broken" or "unsupported"; `decodedBytes` is how many bytes a broken frame decodes to. */
+/** The error of a call that failed. `kind` is "empty", "broken" or "unsupported". `decodedBytes` is how many bytes a broken frame decodes to. */
 class CobsError extends Error {
   constructor(kind, message, decodedBytes = 0) {
     super(message);
@@ -48,7 +48,7 @@ class CobsError extends Error {
 
 const SMALL = Array.from({ length: NEAR + 64 }, (_, number) => BigInt(number));
 
-/** Returns a number as a BigInt, for the module. Making a BigInt costs more than a short call, so the BigInts of small numbers are kept. */
+/** Returns a number as a BigInt, for the module. Making a BigInt takes longer than a short call, so the BigInts of small numbers are made only once. */
 const word = (number) => (number < SMALL.length ? SMALL[number] : BigInt(number));
 
 /** An instance of the module, with calls whose arguments are addresses in its memory. */
@@ -96,7 +96,7 @@ class Machine {
 
   /** Returns a copy of the bytes at an address. */
   read(at, length) {
-    // the constructor copies many bytes in half the time that `slice` needs, because `slice` first clears the copy
+    // for many bytes, the constructor needs only half as much time as `slice`, because `slice` first clears the copy
     if (length < LONG) return this.#bytes.slice(at, at + length);
     return new Uint8Array(this.#bytes.subarray(at, at + length));
   }
@@ -110,7 +110,7 @@ class Machine {
     return Number(this.#calls.jcobs_max_length(BigInt(length)));
   }
 
-  /** Returns the address for the result of a call with `length` bytes, which are at `scratchAt`. */
+  /** Returns the address to which a call writes its result if `length` bytes are passed to it at `scratchAt`. */
   placeAfter(length) {
     return this.scratchAt + Math.max(length, NEAR);
   }
@@ -168,20 +168,20 @@ class Machine {
     };
   }
 
-  /** Returns the jcobs_answer of the last call: a 32-bit number, followed by two 64-bit numbers, each with its low half first. */
+  /** Returns the jcobs_answer of the last call. It is a 32-bit number, followed by two 64-bit numbers, whose low halves come first. */
   #answer() {
     const words = this.#words;
     return { status: words[0], consumed: words[2] + words[3] * 0x100000000, length: words[4] + words[5] * 0x100000000 };
   }
 }
 
-/** A small module with a function that copies within its memory. Such copying is the newest feature of WebAssembly that cobs.wasm uses. */
+/** A small module with a function that copies bytes within its memory (memory.copy). No feature of WebAssembly that cobs.wasm uses is newer than this copying. */
 const PROBE = Uint8Array.of(
   ...[0, 0x61, 0x73, 0x6d, 1, 0, 0, 0, 1, 4, 1, 0x60, 0, 0, 3, 2, 1, 0, 5, 3, 1, 0, 1],
   ...[10, 14, 1, 12, 0, 0x41, 0, 0x41, 0, 0x41, 0, 0xfc, 10, 0, 0, 0x0b],
 );
 
-/** Returns the reason why cobs.wasm doesn't run here, or "" if it does run. */
+/** Returns the reason why cobs.wasm can't run here, or "" if it can. */
 function obstacle() {
   const hasAll = typeof WebAssembly === "object" && typeof BigInt64Array === "function" && WebAssembly.validate(PROBE);
   if (!hasAll) return "this engine lacks the WebAssembly that cobs.wasm needs, which browsers have since 2021 and Node since 16";
@@ -193,7 +193,7 @@ function obstacle() {
   }
 }
 
-/** Returns whether cobs.wasm runs here. */
+/** Returns whether cobs.wasm can run here. */
 const isSupported = () => obstacle() === "";
 
 let compiled;
@@ -205,7 +205,7 @@ let loading;
  * except `isSupported` needs the module. Once the module is loaded, or is being loaded, a further call changes nothing.
  */
 function load(source) {
-  // moduleAddress() isn't the parameter's default value, because in dist/ it decodes the whole module, and should do so only once
+  // moduleAddress() isn't the parameter's default value: in dist/ it decodes the whole module, so it should be called only once
   loading ??= loadFrom(source === undefined ? moduleAddress() : source).catch((error) => {
     loading = undefined;
     throw error;
@@ -237,7 +237,7 @@ async function loadFrom(source) {
   demandSupport();
   const module = await moduleOf(source);
   demandCalls(module);
-  // `new WebAssembly.Instance` isn't used: Chrome before version 115 doesn't allow it on the main thread for a module of this size
+  // `new WebAssembly.Instance` isn't used, because on the main thread, Chrome before version 115 doesn't allow it for a module of this size
   const instance = await WebAssembly.instantiate(module, {});
   if (!shared) keep(module, instance);
 }
@@ -247,7 +247,7 @@ function demandCalls(module) {
   if (!CALLS.every((name) => names.has(name))) throw new TypeError("the module isn't this version's cobs.wasm");
 }
 
-/** Keeps the module, and the instance that all calls share from now on. */
+/** Stores the module, and the instance that all calls share from now on. */
 function keep(module, instance) {
   shared = new Arena(new Machine(instance));
   compiled = module;
@@ -266,10 +266,10 @@ async function moduleOf(given) {
   return WebAssembly.compile(files ? await files.promises.readFile(url) : await bytesOfResponse(await fetch(url)));
 }
 
-/** Returns Node's module `fs` if `url` is the address of a file. The module isn't imported, because bundlers for browsers can't resolve it. */
+/** Returns Node's module `fs` if `url` is the address of a file. An `import` of `fs` isn't used, because bundlers for browsers can't resolve it. */
 const filesFor = (url) => (url.protocol === "file:" ? globalThis.process?.getBuiltinModule?.("node:fs") : undefined);
 
-/** Returns the bytes of the file at an address. Only Node can read a file without a promise. */
+/** Returns the bytes of the file at an address. This works only in Node, because browsers can't read a file without a promise. */
 function fileAt(source) {
   const files = source instanceof URL ? filesFor(source) : undefined;
   if (!files) throw new TypeError("loadSync takes bytes or a compiled module; load fetches from an address");
@@ -307,7 +307,7 @@ class Arena {
     return place;
   }
 
-  /** Frees a place. Adjacent free places become one, so that `take` can use all their bytes for one place. */
+  /** Frees a place, and joins it with the free places next to it, so that `take` can use all their bytes for one place. */
   give({ at, size }) {
     const free = this.#free;
     let next = this.#firstAfter(at);
@@ -340,7 +340,7 @@ function loaded() {
   return shared;
 }
 
-/** Returns a machine with `size` free bytes at `scratchAt`: the shared machine, or a new one for a call that needs more bytes. */
+/** Returns a machine with `size` free bytes at `scratchAt`: the shared machine, or a new one if the shared machine has fewer bytes. */
 function machineFor(size) {
   const { machine } = loaded();
   if (size <= SCRATCH_SIZE) return machine;
@@ -363,11 +363,11 @@ function bytesOf(source) {
   throw new TypeError("bytes must be a Uint8Array, another view, or an ArrayBuffer");
 }
 
-/** Returns whether a view has lost its bytes. The length of such a view is 0, like the length of an empty view. */
+/** Returns whether a view has lost its bytes. Its length is then 0, like the length of an empty view. */
 function isGone(view) {
   try {
     if ("length" in view && view.length === 0) Uint8Array.prototype.indexOf.call(view, 0); // throws for a view that is out of bounds
-    return view.byteLength < 0; // throws for such a DataView
+    return view.byteLength < 0; // throws for a DataView that is out of bounds
   } catch {
     return true;
   }
@@ -380,13 +380,13 @@ function isGone(view) {
 //     const frame = encode(Uint8Array.of(10, 11, 0, 12));            // 3 10 11 2 12
 //     const frames = port.readable.pipeThrough(new FrameDecoderStream({ maxLength: 4096 }));
 //
-// This file copies bytes into the module's memory, and copies results out of that memory. Only the module decides which bytes a
-// frame has, and which messages a stream has.
+// This file copies bytes into the module's memory, and copies results out of the module's memory. Only the module decides which
+// bytes a frame has, and which messages a stream has.
 
 
 /**
- * Returns the options of a call, with the default for each option that is left out. Throws a TypeError if the call doesn't have
- * one of the options.
+ * Returns the options of a call, with the default value for each option that isn't given. Throws a TypeError if the call doesn't
+ * have one of the given options.
  */
 function optionsOf(given, defaults) {
   if (given === undefined) return defaults;
@@ -422,12 +422,12 @@ function maxEncodedLength(length) {
 
 /**
  * Returns a length that is enough for the frame of a message of `length` bytes, and for a sentinel after the frame. A frame is at
- * least one byte longer than its message, and each 254 bytes of the message can add one more byte. The returned length has room
- * for one more byte for each 128 bytes.
+ * least one byte longer than its message, and each 254 bytes of the message can add one more byte. The returned length is longer
+ * than necessary: it has one more byte for each 128 bytes of the message.
  */
 const roomFor = (length) => length + Math.floor(length / 128) + 2;
 
-/** Returns the frame of a message, with a sentinel after it if `terminated` is true. */
+/** Returns the frame of a message, followed by a sentinel if `terminated` is true. */
 function encode(message, options) {
   const { sentinel, terminated } = optionsOf(options, ENCODING);
   const bytes = bytesOf(message);
@@ -439,8 +439,8 @@ function encode(message, options) {
 }
 
 /**
- * Encodes a message to the front of `dest`, with a sentinel after the frame if `terminated` is true. Returns how many bytes the call
- * has written. If these bytes don't fit, `dest` isn't changed.
+ * Writes the frame of a message to the front of `dest`, followed by a sentinel if `terminated` is true. Returns how many bytes the
+ * call has written. If the bytes to write don't fit `dest`, throws a RangeError and doesn't change `dest`.
  */
 function encodeInto(message, dest, options) {
   const front = bytesOf(dest);
@@ -471,7 +471,10 @@ function decode(frame, options) {
   throw new CobsError("empty", "there is no frame to decode: there are no bytes, or only sentinels");
 }
 
-/** Returns "canonical" for a frame that `encode` returns, "longer" for a frame that ends in a needless block 01, and otherwise "notAFrame". */
+/**
+ * Returns "canonical" if the bytes are a frame that `encode` returns, "longer" if they are such a frame followed by a needless
+ * block, which has only its code, 01, and "notAFrame" if they aren't a frame.
+ */
 function frameKind(frame, options) {
   const bytes = bytesOf(frame);
   const { sentinel } = optionsOf(options, DECODING);
@@ -483,8 +486,8 @@ function frameKind(frame, options) {
 const abandoned = typeof FinalizationRegistry === "function" ? new FinalizationRegistry(({ arena, place }) => arena.give(place)) : null;
 
 /**
- * A place in the shared memory for a state, a chunk and a buffer. `close` frees the place. If the owner of the place, a decoder
- * or an encoder, is garbage-collected, the place is freed too.
+ * A place in the shared memory for a state, a chunk and a buffer. The owner of the place is a decoder or an encoder. `close` frees
+ * the place. The place is also freed if its owner is garbage-collected.
  */
 class Held {
   #place;
@@ -530,7 +533,7 @@ class FrameDecoder {
     this.#decoder = this.#held.arena.machine.decoder(this.#held.state, this.#held.buffer, maxLength);
   }
 
-  /** Whether a frame has begun, and no sentinel has ended it yet. */
+  /** Whether a frame has begun but no sentinel has ended it yet. */
   get unfinished() {
     return this.#held.isOpen ? !this.#decoder.isIdle() : this.#wasUnfinished;
   }
@@ -541,10 +544,10 @@ class FrameDecoder {
   }
 
   /**
-   * Decodes a chunk, and calls `visit(outcome, end)` for each piece that ends in the chunk. `end` is the index in the chunk right
-   * after the sentinel of the piece. If `visit` closes the decoder, `push` doesn't call `visit` again. If `visit` throws an
-   * error, `push` decodes the rest of the chunk without calling `visit`, and then throws this error. So the next chunk is decoded
-   * as if `visit` had thrown nothing.
+   * Decodes a chunk, and calls `visit(outcome, end)` for each piece that ends in the chunk. `end` is the index, counted from the
+   * start of the chunk, of the byte after the piece's sentinel. If `visit` closes the decoder, `push` doesn't call `visit` again.
+   * If `visit` throws an error, `push` decodes the rest of the chunk without calling `visit`, and then throws this error. So the
+   * error doesn't change how the next chunk is decoded.
    */
   push(chunk, visit) {
     if (!this.#held.isOpen || this.#isClosing) throw new Error("the decoder is closed");
@@ -564,7 +567,7 @@ class FrameDecoder {
     if (fault.isThrown) throw fault.thrown;
   }
 
-  /** Returns the index in a chunk at which decoding begins. */
+  /** Returns the index, counted from the start of a chunk, at which decoding begins. */
   #skip(bytes) {
     if (!this.#isSkipping) return 0;
     const at = bytes.indexOf(this.#sentinel);
@@ -610,8 +613,8 @@ class FrameDecoder {
 }
 
 /**
- * Returns an iterator over the outcomes of the pieces of `bytes`. The property `end` of an outcome is the index in `bytes` right
- * after the sentinel of the piece.
+ * Returns an iterator over the outcomes of the pieces of `bytes`. The property `end` of an outcome is the index in `bytes` of the
+ * byte after the piece's sentinel.
  */
 function frames(bytes, options) {
   const view = bytesOf(bytes);
@@ -666,7 +669,7 @@ class FrameEncoder {
     this.#taken += bytes.length;
   }
 
-  /** Ends the message and returns its frame, with a sentinel after the frame if `terminated` is true. The next `push` begins another message. */
+  /** Ends the message and returns its frame, followed by a sentinel if `terminated` is true. The next `push` begins another message. */
   finish(options) {
     this.#demandOpen();
     const { terminated } = optionsOf(options, { terminated: false });
@@ -693,16 +696,16 @@ class FrameEncoder {
 }
 
 /**
- * Makes the two ends of a stream, `readable` and `writable`, like those of a TransformStream. `take` is called with each chunk
- * and a function `give`, to which `take` passes each result. `close` is called once, however the stream ends. A TransformStream
- * isn't enough, because some engines don't inform its transformer when the stream is cancelled or aborted.
+ * Makes the two ends of a stream, `readable` and `writable`, like those of a TransformStream. For each chunk, `take` is called
+ * with the chunk and a function `give`. `take` calls `give` with each result. `close` is called once, however the stream ends. A
+ * TransformStream isn't used, because some engines don't inform its transformer when the stream is cancelled or aborted.
  */
 function ends(take, close) {
   const link = { take, close, out: null, into: null, wake: () => {}, isWanted: false, isOver: false, reason: undefined };
   return { readable: readableOf(link), writable: writableOf(link) };
 }
 
-/** Makes the stream fail for this reason. `end` is the controller of the end, readable or writable, to which the reason is passed. */
+/** Makes the stream fail with this reason. The reason is passed to `end`, the controller of the readable end or of the writable end. */
 function fail(link, end, reason) {
   if (link.isOver) return;
   link.isOver = true;
@@ -728,7 +731,7 @@ function writableOf(link) {
   return new WritableStream({
     start(controller) {
       link.into = controller;
-      // the engine calls `abort` below only after the current write has ended, and this write may be waiting for a reader
+      // `abort` below isn't enough: the engine calls it only after the current write, and that write may wait for a reader
       const { signal } = controller;
       signal?.addEventListener("abort", () => fail(link, link.out, signal.reason));
     },
@@ -756,7 +759,7 @@ function writableOf(link) {
   });
 }
 
-/** Turns bytes into outcomes: `{message}`, `{broken: n}` or `{tooLong: true}` for each piece that a sentinel ends. */
+/** Turns bytes into outcomes. For each piece that a sentinel ends, the outcome is `{message}`, `{broken: n}` or `{tooLong: true}`. */
 class FrameDecoderStream {
   #decoder;
 
@@ -772,7 +775,7 @@ class FrameDecoderStream {
   }
 
   /**
-   * Whether a frame has begun, and no sentinel has ended it yet. At the end of the stream, the value says whether the last
+   * Whether a frame has begun but no sentinel has ended it yet. At the end of the stream, the value says whether the last
    * frame was cut off.
    */
   get unfinished() {

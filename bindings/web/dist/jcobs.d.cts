@@ -2,13 +2,13 @@
  * Consistent Overhead Byte Stuffing (COBS), implemented by the proved code in cobs.wasm.
  *
  * A call throws:
- * - a TypeError if an argument must be `Bytes` and isn't, or if you pass an option that the call doesn't have;
+ * - a TypeError if an argument that must be `Bytes` has another type, or if you pass an option that the call doesn't have;
  * - a RangeError if a `sentinel`, a `maxLength` or a length isn't an allowed number;
  * - an Error if the module isn't loaded.
  */
 
-// With some values of TypeScript's option `lib`, these names aren't declared elsewhere. If `dom`, @types/node or a newer compiler
-// declares them too, the declarations here add nothing.
+// With some values of TypeScript's option `lib`, these names aren't declared anywhere else. If they are declared elsewhere, for
+// example by `dom`, @types/node or a newer compiler, the declarations here add nothing.
 declare global {
   interface SymbolConstructor {
     readonly dispose: unique symbol;
@@ -26,7 +26,7 @@ declare global {
   }
 }
 
-/** The type of bytes in arguments: an ArrayBuffer, a SharedArrayBuffer, or any view of one of these. */
+/** Bytes that are passed to a call: an ArrayBuffer, a SharedArrayBuffer, or any view of one of these. */
 export type Bytes = ArrayBuffer | SharedArrayBuffer | ArrayBufferView;
 
 /** A source from which `load` can read the module: an address, a response, the bytes of cobs.wasm, or the compiled module. */
@@ -43,7 +43,10 @@ export interface EncodeOptions extends SentinelOptions {
 }
 
 export interface PieceOptions extends SentinelOptions {
-  /** The length of the longest message, in bytes: an integer, 0 or more. Default 65536. For `frames`, the default is the number of bytes that are passed. */
+  /**
+   * The length of the longest message that is accepted, in bytes: an integer, 0 or more. Default 65536. For `frames`, the default
+   * is the number of bytes that are passed.
+   */
   maxLength?: number;
 }
 
@@ -104,14 +107,14 @@ export function loadSync(source?: Bytes | WebAssembly.Module): void;
  */
 export function maxEncodedLength(length: number): number;
 
-/** Returns the frame of a message, with a sentinel after it if `terminated` is true. */
+/** Returns the frame of a message, followed by a sentinel if `terminated` is true. */
 export function encode(message: Bytes, options?: EncodeOptions): Uint8Array;
 
 /**
- * Encodes a message to the front of `dest`, with a sentinel after the frame if `terminated` is true. Returns how many bytes the
- * call has written. The bytes of `dest` after them aren't changed.
+ * Writes the frame of a message to the front of `dest`, followed by a sentinel if `terminated` is true. Returns how many bytes the
+ * call has written. The bytes of `dest` after the written bytes aren't changed.
  *
- * @throws RangeError if the bytes to write don't fit; in this case `dest` isn't changed
+ * @throws RangeError if the bytes to write don't fit `dest`; in this case `dest` isn't changed
  */
 export function encodeInto(message: Bytes, dest: Bytes, options?: EncodeOptions): number;
 
@@ -124,14 +127,18 @@ export function encodeInto(message: Bytes, dest: Bytes, options?: EncodeOptions)
 export function decode(frame: Bytes, options?: SentinelOptions): Uint8Array;
 
 /**
- * Returns "canonical" for a frame that `encode` returns, "longer" for a frame that ends in a needless block 01, and "notAFrame"
- * for bytes that aren't a frame. Pass the bytes without the sentinels before and after them.
+ * Returns one of these words:
+ * - "canonical" if the bytes are a frame that `encode` returns;
+ * - "longer" if the bytes are such a frame, followed by a needless block that has only its code, 01;
+ * - "notAFrame" if the bytes aren't a frame.
+ *
+ * Pass the bytes without the sentinels before and after them.
  */
 export function frameKind(frame: Bytes, options?: SentinelOptions): "canonical" | "longer" | "notAFrame";
 
 /**
- * Returns an iterator over the outcomes of the pieces of `bytes`. The property `end` of an outcome is the index in `bytes` right
- * after the sentinel of the piece. Bytes after the last sentinel have no outcome.
+ * Returns an iterator over the outcomes of the pieces of `bytes`. The property `end` of an outcome is the index in `bytes` of the
+ * byte after the piece's sentinel. Bytes after the last sentinel have no outcome.
  */
 export function frames(bytes: Bytes, options?: DecoderOptions): IterableIterator<Outcome & { end: number }>;
 
@@ -139,21 +146,21 @@ export function frames(bytes: Bytes, options?: DecoderOptions): IterableIterator
 export class FrameDecoder {
   constructor(options?: DecoderOptions);
   /**
-   * Decodes a chunk, and calls `visit` for each piece that ends in the chunk. `end` is the index in the chunk right after the
-   * sentinel of the piece. If `visit` closes the decoder, `push` doesn't call `visit` again. If `visit` throws an error, `push`
-   * decodes the rest of the chunk without calling `visit`, and then throws this error. So the next chunk is decoded as if `visit`
-   * had thrown nothing.
+   * Decodes a chunk, and calls `visit` for each piece that ends in the chunk. `end` is the index, counted from the start of the
+   * chunk, of the byte after the piece's sentinel. If `visit` closes the decoder, `push` doesn't call `visit` again. If `visit`
+   * throws an error, `push` decodes the rest of the chunk without calling `visit`, and then throws this error. So the error doesn't
+   * change how the next chunk is decoded.
    *
    * @throws Error if the decoder is closed, or if `visit` calls `push`
    */
   push(chunk: Bytes, visit: (outcome: Outcome, end: number) => void): void;
-  /** Whether a frame has begun, and no sentinel has ended it yet. */
+  /** Whether a frame has begun but no sentinel has ended it yet. */
   get unfinished(): boolean;
   /** How many bytes `skipFirst` has skipped, including the first sentinel. */
   get skipped(): number;
   /** Frees the decoder's memory. Without this call, garbage collection frees the memory at some later time. */
   close(): void;
-  /** Calls `close`. A `using` declaration calls this method at the end of its block. */
+  /** Calls `close`. At the end of a block, a `using` declaration calls this method. */
   [Symbol.dispose](): void;
 }
 
@@ -170,14 +177,14 @@ export class FrameEncoder {
   /** The length of the message so far, in bytes. */
   get length(): number;
   /**
-   * Ends the message and returns its frame, with a sentinel after it if `terminated` is true. The next `push` begins another message.
+   * Ends the message and returns its frame, followed by a sentinel if `terminated` is true. The next `push` begins another message.
    *
    * @throws Error if the encoder is closed
    */
   finish(options?: { terminated?: boolean }): Uint8Array;
   /** Frees the encoder's memory. Without this call, garbage collection frees the memory at some later time. */
   close(): void;
-  /** Calls `close`. A `using` declaration calls this method at the end of its block. */
+  /** Calls `close`. At the end of a block, a `using` declaration calls this method. */
   [Symbol.dispose](): void;
 }
 
@@ -187,8 +194,8 @@ export class FrameDecoderStream {
   readonly readable: ReadableStream<Outcome>;
   readonly writable: WritableStream<Bytes>;
   /**
-   * Whether a frame has begun, and no sentinel has ended it yet. At the end of the stream, the value says whether the last frame was
-   * cut off.
+   * Whether a frame has begun but no sentinel has ended it yet. At the end of the stream, the value says whether the last frame
+   * was cut off.
    */
   get unfinished(): boolean;
   /** How many bytes `skipFirst` has skipped, including the first sentinel. */

@@ -76,8 +76,7 @@ macro_rules! decoder_methods {
         /// - [`DecodeError::InvalidFrame`]: the byte is a zero inside a block. The next nonzero byte begins a new
         ///   frame.
         /// - [`DecodeError::TargetBufTooSmall`]: the message is longer than the buffer. `feed` returns this error for
-        ///   the first byte that doesn't fit, and for each byte after that, up to and including the zero that ends the
-        ///   frame.
+        ///   the first byte that doesn't fit, and for each later byte up to and including the zero that ends the frame.
         #[inline]
         pub fn feed(&mut self, data: u8) -> Result<Option<usize>, DecodeError> {
             self.progress.feed(&mut self.dest[..], data)
@@ -96,10 +95,10 @@ macro_rules! decoder_methods {
         ///
         /// - [`DecodeError::InvalidFrame`]: the frame breaks off inside a block. The call has consumed the bytes up to
         ///   and including the zero that ends the frame.
-        /// - [`DecodeError::TargetBufTooSmall`]: the message is longer than the buffer. The push that contains the
-        ///   first byte that doesn't fit returns this error. So does each later push that isn't empty, up to and
-        ///   including the push that contains the zero that ends the frame. The push that contains this zero consumes
-        ///   the bytes up to and including the zero. Each earlier push consumes all its bytes.
+        /// - [`DecodeError::TargetBufTooSmall`]: the message is longer than the buffer. The push with the first byte
+        ///   that doesn't fit returns this error. So does each later push that isn't empty, until a push contains the
+        ///   zero that ends the frame. This last push returns the error too, and consumes the bytes up to and including
+        ///   the zero. Each earlier push consumes all its bytes.
         ///
         /// After an error, continue with the bytes from index [`parsed_size`](Self::parsed_size) on. If you do, a
         /// broken frame never affects another frame.
@@ -108,8 +107,8 @@ macro_rules! decoder_methods {
             self.progress.push(&mut self.dest[..], data)
         }
 
-        /// Returns how many bytes the last [`push`](Self::push) or [`feed`](Self::feed) consumed, even if that call
-        /// returned an error. Before the first such call, returns 0. The crate `cobs` doesn't have this call.
+        /// Returns how many bytes the last [`push`](Self::push) or [`feed`](Self::feed) consumed, even if it returned
+        /// an error. Returns 0 before the first `push` or `feed`. The crate `cobs` doesn't have this call.
         #[inline]
         #[must_use]
         pub const fn parsed_size(&self) -> usize {
@@ -126,7 +125,7 @@ macro_rules! decoder_methods {
         /// Returns the buffer to which messages are decoded, as a mutable slice.
         ///
         /// You may change the buffer between two frames. If you change the buffer after a frame has begun and before
-        /// the zero that ends this frame, the result of the frame and the contents of the buffer are unspecified.
+        /// it has ended, the result of this frame and the contents of the buffer are unspecified.
         #[inline]
         pub fn dest_mut(&mut self) -> &mut [u8] {
             &mut self.dest[..]
@@ -146,7 +145,7 @@ macro_rules! decoder_reset {
     };
 }
 
-/// Implements [`FrameDecoder`] for a decoder. Readers of streams use this trait.
+/// Implements [`FrameDecoder`], the trait that readers of streams use, for a decoder.
 macro_rules! frame_decoder {
     ($decoder:ty, $($generics:tt)*) => {
         impl $($generics)* FrameDecoder for $decoder {
@@ -229,7 +228,7 @@ impl<const N: usize> CobsDecoderHeapless<N> {
     }
 
     /// Makes a decoder whose buffer holds the bytes of `vec`, followed by zeros. `vec` can be an array of `N` bytes or
-    /// an [`ArrayVec`], and with the feature `heapless` also a `heapless::Vec`.
+    /// an [`ArrayVec`]. With the feature `heapless`, it can also be a `heapless::Vec`.
     ///
     /// ```
     /// let decoder = jcobs::CobsDecoderHeapless::new_with_vec([7; 3]);
@@ -256,7 +255,7 @@ impl<const N: usize> Default for CobsDecoderHeapless<N> {
     }
 }
 
-/// A streaming decoder that owns its buffer. `new` allocates the buffer, and pushes allocate nothing.
+/// A streaming decoder that owns its buffer. `new` allocates the buffer. Pushes don't allocate memory.
 ///
 /// ```
 /// let mut decoder = jcobs::CobsDecoderOwned::new(4);
