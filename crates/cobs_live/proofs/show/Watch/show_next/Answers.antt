@@ -137,13 +137,17 @@ returns-in_default-clause-goes_on g c = λ yes settings start from before s. rec
 -- A WRITE FAILED: for a fault of a write, `ShowsNext` claims nothing about the text (`unfinished-next`). The other goals
 -- with the ending `-clause-shown` say this for the other writes.
 pub returns-in_err-end-clause-shown : goal.returns-in_err-end-clause-shown
-returns-in_err-end-clause-shown g c = λ settings from before s. unfinished-next _ _ _ _ _ _ _ c.in_err-end.field-0.0 (search rules) c.in_err-end.ensures.fault
+returns-in_err-end-clause-shown g c = λ settings from before s.
+    unfinished-next _ _ _ _ _ _ _ c.in_err-end.field-0.0 (search rules) c.in_err-end.ensures.fault
 
 pub returns-in_err-show_bytes-clause-shown : goal.returns-in_err-show_bytes-clause-shown
-returns-in_err-show_bytes-clause-shown g c = λ settings from before s. unfinished-next _ _ _ _ _ _ _ c.in_err-show_bytes.field-0.0 (search rules) c.in_err-show_bytes.ensures.fault
+returns-in_err-show_bytes-clause-shown g c = λ settings from before s.
+    unfinished-next _ _ _ _ _ _ _ c.in_err-show_bytes.field-0.0 (search rules) c.in_err-show_bytes.ensures.fault
 
 pub returns-in_err-hang_up-clause-shown : goal.returns-in_err-hang_up-clause-shown
-returns-in_err-hang_up-clause-shown g c = λ settings from before s. unfinished-next _ _ _ _ _ _ _ c.in_err-hang_up.field-0.0 (search rules) c.in_err-hang_up.ensures.fault
+returns-in_err-hang_up-clause-shown g c = λ settings from before s.
+    unfinished-next _ _ _ _ _ _ _ c.in_err-hang_up.field-0.0 (search rules) c.in_err-hang_up.ensures.fault
 
 pub returns-in_err-end-in-Err-clause-shown : goal.returns-in_err-end-in-Err-clause-shown
-returns-in_err-end-in-Err-clause-shown g c = λ settings from before s. unfinished-next _ _ _ _ _ _ _ c.in_err-end-in-Err.field-0.0 (search rules) c.in_err-end-in-Err.ensures.fault
+returns-in_err-end-in-Err-clause-shown g c = λ settings from before s.
+    unfinished-next _ _ _ _ _ _ _ c.in_err-end-in-Err.field-0.0 (search rules) c.in_err-end-in-Err.ensures.fault
