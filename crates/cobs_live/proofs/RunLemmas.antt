@@ -374,7 +374,8 @@ unfinished-fault settings from to before after (Ok tally) fault e other = absurd
 
 -- if the result of one read is a fault of a write, `ShowsNext` holds, because nothing is claimed about the text then
 pub unfinished-next : (settings : Settings) (from to before after : Option (List ℕ)) (watch : Watch) (result : Result Bool WatchFault)
-    (fault : WatchFault) → IsErrAnd result (λ found. found ≡ fault) → (fault ≢ ReadFailed) × (fault ≢ OutOfMemory) → ShowsNext settings result from to before after watch
+    (fault : WatchFault) → IsErrAnd result (λ found. found ≡ fault)
+    → (fault ≢ ReadFailed) × (fault ≢ OutOfMemory) → ShowsNext settings result from to before after watch
 unfinished-next settings from to before after watch (Err ReadFailed) fault e other = grind arith
 unfinished-next settings from to before after watch (Err OutOfMemory) fault e other = grind arith
 unfinished-next settings from to before after watch (Err WriteFailed) fault e other = tt
