@@ -59,14 +59,3 @@ by_part-preserved-in_default g c =
 pub returns-clause-shown : goal.returns-clause-shown
 returns-clause-shown g c = λ p d gone read t times r.
     ShowsBytes-through _ _ _ (rw (take_all c.by_part.at c.args.bytes.now (omega arith)) at (c.by_part.invariant.so_far p d gone read t times r)) c.in_ok-write_to.ensures.written
-
--- if no piece ends, the iteration takes at least one byte, because the part isn't empty
-pub by_part-smaller-in_default : goal.by_part-smaller-in_default
-by_part-smaller-in_default g c = grind arith
-
--- a write failed, which doesn't change the message's length
-pub returns-in_err-show_at_once-clause-len : goal.returns-in_err-show_at_once-clause-len
-returns-in_err-show_at_once-clause-len g c = c.in-Some.ensures.takes.takes.len ∙ c.by_part.invariant.len
-
-pub returns-in_err-write_to-clause-len : goal.returns-in_err-write_to-clause-len
-returns-in_err-write_to-clause-len g c = c.by_part.invariant.len
