@@ -371,3 +371,13 @@ unfinished-fault settings from to before after (Err OutOfMemory) fault e other =
 unfinished-fault settings from to before after (Err WriteFailed) fault e other = tt
 unfinished-fault settings from to before after (Err OutputClosed) fault e other = tt
 unfinished-fault settings from to before after (Ok tally) fault e other = absurd e
+
+-- if the result of one read is a fault of a write, `ShowsNext` holds, because nothing is claimed about the text then
+pub unfinished-next : (settings : Settings) (from to before after : Option (List ℕ)) (watch : Watch) (result : Result Bool WatchFault)
+    (fault : WatchFault) → IsErrAnd result (λ found. found ≡ fault)
+    → (fault ≢ ReadFailed) × (fault ≢ OutOfMemory) → ShowsNext settings result from to before after watch
+unfinished-next settings from to before after watch (Err ReadFailed) fault e other = grind arith
+unfinished-next settings from to before after watch (Err OutOfMemory) fault e other = grind arith
+unfinished-next settings from to before after watch (Err WriteFailed) fault e other = tt
+unfinished-next settings from to before after watch (Err OutputClosed) fault e other = tt
+unfinished-next settings from to before after watch (Ok more) fault e other = absurd e

@@ -1,8 +1,10 @@
 -- The text so far is the text that `show_next` shows, read after read. At a fault, the text is the one that `HasShown`
 -- describes for this fault (`shown-fault`, `unfinished-fault`). After the greatest number of reads, the text of the end
 -- of the input is added (`shown-ended`).
-use Rattle.std.proofs.Common.{rules, [], Some}
+use Rattle.std.proofs.Common.{rules, [], Some, arith}
 use Rattle.std.proofs.KnownBytes.{Consumes-nil}
+use Rattle.std.proofs.lemmas.Grind.{common_steps}
+use Rattle.cobs_live.proofs.ReadLemmas.{live-none}
 use Rattle.cobs_live.proofs.RunLemmas.{HasShownSoFar-live, shown-ended, shown-fault, unfinished-fault}
 use Rattle.cobs_live.proofs.show.run_show.Goals as goal
 
@@ -41,3 +43,24 @@ returns-in_err-end-clause-shown g c = unfinished-fault _ _ _ _ _ _ c.in_err-end.
 -- the greatest number of reads was made, and the text of the ended input was written
 pub returns-clause-shown : goal.returns-clause-shown
 returns-clause-shown g c = shown-ended (assumption c.law_9.ensures) c.by_read.invariant.live.so_far (Consumes-nil _) c.in_ok-end.ensures.shown
+
+-- the greatest number of reads was made, and the run was live at each read, whether or not the last write failed
+pub returns-in_err-end-clause-live : goal.returns-in_err-end-clause-live
+returns-in_err-end-clause-live g c = c.by_read.invariant.live.live
+
+pub returns-clause-live : goal.returns-clause-live
+returns-clause-live g c = c.by_read.invariant.live.live
+
+-- memory ran out: nothing was read, and nothing was written; so the run is live, because there was no read
+-- (`live-none`)
+pub returns-in_err-chunk-clause-shown : goal.returns-in_err-chunk-clause-shown
+returns-in_err-chunk-clause-shown g c = grind (arith, common_steps)
+
+pub returns-in_err-chunk-clause-live : goal.returns-in_err-chunk-clause-live
+returns-in_err-chunk-clause-live g c = live-none _ _ _
+
+pub returns-in_err-watch-clause-shown : goal.returns-in_err-watch-clause-shown
+returns-in_err-watch-clause-shown g c = grind (arith, common_steps)
+
+pub returns-in_err-watch-clause-live : goal.returns-in_err-watch-clause-live
+returns-in_err-watch-clause-live g c = live-none _ _ _

@@ -2,7 +2,7 @@
 -- `RunLemmas` has a lemma for each part of the state after the call (`more-ended`, `more-left`, `more-tallied`,
 -- `more-timed`, and `hung-up` for a hang-up). On every path the run stays live (`live-next`).
 -- `law_9`: A stream may be cut anywhere.
-use Rattle.std.proofs.Common.{◌≡◌, ℕ, Bool, ◌++◌, Option, subst, List, length, take, drop, ap, ◌∙◌, sym, length-take-le, arith}
+use Rattle.std.proofs.Common.{◌≡◌, ℕ, Bool, ◌++◌, Option, subst, List, length, take, drop, ap, ◌∙◌, sym, length-take-le, arith, rules}
 use Rattle.std.proofs.KnownBytes.{Appends-kept}
 use Rattle.cobs.specs.Feed.{DecoderAfter}
 use Rattle.cobs.specs.Laws.{StreamLaw}
@@ -15,7 +15,7 @@ use Rattle.cobs.specs.Sentinel.{xor_each}
 use Rattle.cobs.specs.Stream.{unended}
 use Rattle.cobs_live.specs.Watched.{begun, letters_of, skips_on}
 use Rattle.cobs_live.proofs.LineLemmas.{letters_of-gone, letters_of-more}
-use Rattle.cobs_live.proofs.RunLemmas.{flushed-Appends, more-ended, more-left, more-read, more-skips, more-tallied, more-timed, whole-message, given-bytes, given-next, given-hang_up, hung-up, next-failed, nothing-read, live-next, newly, opened, same-tallied, shown-all, shown-ended, takes-bytes, takes-hang_up}
+use Rattle.cobs_live.proofs.RunLemmas.{flushed-Appends, more-ended, more-left, more-read, more-skips, more-tallied, more-timed, whole-message, given-bytes, given-next, given-hang_up, hung-up, next-failed, nothing-read, live-next, newly, opened, same-tallied, shown-all, shown-ended, takes-bytes, takes-hang_up, unfinished-next}
 use Rattle.cobs_live.proofs.show.Watch.show_next.Goals as goal
 
 -- the read returned no bytes: the input has ended, and everything was shown (`shown-all`)
@@ -133,3 +133,21 @@ returns-in_default-clause-goes_on g c = λ yes settings start from before s. rec
       ∙ ap (λ (l : List (Option ℕ)). letters_of s.so_far.ended.gone s.so_far.ended.bytes ++ l) (given-hang_up WatchFault c.in-Ok.came c.read_chunk.new.chunk c.in_default.is)
       ∙ sym (letters_of-gone s.so_far.ended.gone s.so_far.ended.bytes);
 }
+
+-- A WRITE FAILED: for a fault of a write, `ShowsNext` claims nothing about the text (`unfinished-next`). The other goals
+-- with the ending `-clause-shown` say this for the other writes.
+pub returns-in_err-end-clause-shown : goal.returns-in_err-end-clause-shown
+returns-in_err-end-clause-shown g c = λ settings from before s.
+    unfinished-next _ _ _ _ _ _ _ c.in_err-end.field-0.0 (search rules) c.in_err-end.ensures.fault
+
+pub returns-in_err-show_bytes-clause-shown : goal.returns-in_err-show_bytes-clause-shown
+returns-in_err-show_bytes-clause-shown g c = λ settings from before s.
+    unfinished-next _ _ _ _ _ _ _ c.in_err-show_bytes.field-0.0 (search rules) c.in_err-show_bytes.ensures.fault
+
+pub returns-in_err-hang_up-clause-shown : goal.returns-in_err-hang_up-clause-shown
+returns-in_err-hang_up-clause-shown g c = λ settings from before s.
+    unfinished-next _ _ _ _ _ _ _ c.in_err-hang_up.field-0.0 (search rules) c.in_err-hang_up.ensures.fault
+
+pub returns-in_err-end-in-Err-clause-shown : goal.returns-in_err-end-in-Err-clause-shown
+returns-in_err-end-in-Err-clause-shown g c = λ settings from before s.
+    unfinished-next _ _ _ _ _ _ _ c.in_err-end-in-Err.field-0.0 (search rules) c.in_err-end-in-Err.ensures.fault
