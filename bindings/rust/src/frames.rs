@@ -201,7 +201,7 @@ where
 #[cfg(feature = "alloc")]
 pub(crate) fn append_frame(stream: &mut Vec<u8>, message: &[u8]) -> Result<(), AllocError> {
     let room = max_encoding_length(message.len()) + 1;
-    // The byte of `zeros` after the frame stays 0.
+    // In the buffer `zeros`, the byte after the frame stays 0.
     memory::append(stream, room, |zeros| encode(message, zeros) + 1)
 }
 
