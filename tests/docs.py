@@ -23,7 +23,8 @@ usage: tests/docs.py [--write]
 - No imports of the libraries go in a ring; files have at most 450 lines and functions 40 (layout.py).
 - The links of each document, the paths and commands that it shows, and the clauses that it names exist. Scripts are executable.
   Names in src/ and specs/ are plain. All versions are that of the file VERSION (prose.py).
-- Counts, sizes and the toolchain in documents are those of the tree, copies are equal, and addresses can exist (facts.py).
+- Counts, sizes and the toolchain in documents are those of the tree, copies are equal, crates.txt has the lines that
+  crates/cobs/CALLING.md quotes from it, and addresses can exist (facts.py).
 - The drawing and the table of crates of docs/ARCHITECTURE.md are what docs/architecture.py makes of the manifests (facts.py).
 
 Only files that git tracks are read. The script prints each difference, and the status is then 1. It also prints hints about

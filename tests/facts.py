@@ -182,10 +182,18 @@ def unread_bytes():
 def other_copies():
     """A line for each copy that a package carries and that isn't its original."""
     copies = [(name, f"bindings/{folder}/{name}") for name in ("LICENSE-MIT", "LICENSE-APACHE") for folder in ("rust", "web")]
-    copies.append(("bindings/c/include/jcobs.h", "bindings/c/device/src/jcobs.h"))
+    copies += [(f"bindings/c/include/{name}", f"bindings/c/device/src/{name}") for name in ("jcobs.h", "jcobs.hpp")]
     for original, copy in copies:
         if (TOP / original).read_bytes() != (TOP / copy).read_bytes():
             yield f"{copy}: it isn't {original}: run cp {original} {copy}"
+
+
+def other_dependencies():
+    """A line for each line that CALLING.md quotes from crates.txt and that isn't there."""
+    lines = (TOP / "crates.txt").read_text().splitlines()
+    for quoted in re.findall(r"^    (cobs\w*:.*)$", (TOP / "crates/cobs/CALLING.md").read_text(), re.M):
+        if quoted.rstrip() not in lines:
+            yield f"crates/cobs/CALLING.md: crates.txt has no line {quoted}"
 
 
 def other_translations():
@@ -202,7 +210,21 @@ def other_drawings():
     yield from (ran.stdout + ran.stderr).splitlines()
 
 
-CHECKS = (other_copies, other_translations, other_drawings, wrong_counts, other_figures, other_ratios, laws_left_out, other_titles, untitled_laws, other_toolchains, dead_addresses, unread_bytes)
+CHECKS = (
+    other_copies,
+    other_dependencies,
+    other_translations,
+    other_drawings,
+    wrong_counts,
+    other_figures,
+    other_ratios,
+    laws_left_out,
+    other_titles,
+    untitled_laws,
+    other_toolchains,
+    dead_addresses,
+    unread_bytes,
+)
 
 
 def complaints():
