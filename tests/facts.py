@@ -27,10 +27,15 @@ FIGURES = [
 ]
 
 
-def cases():
-    """How many cases the files of conformance/ have."""
+def cases(calls=".*"):
+    """How many cases the files of conformance/ have, of the calls whose names match."""
     lines = [line for path in (TOP / "conformance").glob("*.txt") for line in path.read_text().splitlines()]
-    return sum(1 for line in lines if line.strip() and not line.startswith("#"))
+    return sum(1 for line in lines if line.strip() and not line.startswith("#") and re.fullmatch(calls, line.split()[2]))
+
+
+def calls_on_device():
+    """The names of the calls whose cases bindings/rust/tests/device.sh runs, as a regular expression."""
+    return re.search(r"awk '\$3 ~ /\^(\([\w|]+\))\$/'", (TOP / "bindings/rust/tests/device.sh").read_text())[1]
 
 
 def lines_of(kind, suffix):
@@ -46,6 +51,7 @@ def number(text):
 def wrong_counts():
     """A line for each count that isn't that of the tree: cases, the module's size, the lines of the library."""
     exact = [(r"(\d[\d,]*) (?:conformance )?cases\b", cases()), (r"(\d[\d,]*) calls with their results", cases())]
+    exact.append((r"(\d[\d,]*) of the conformance cases\b", cases(calls_on_device())))
     exact.append((r"module of (\d+) KB", round((TOP / "bindings/web/cobs.wasm").stat().st_size / 1000)))
     about = [(r"(\d[\d,]*) lines of source", lines_of("src", ".rt")), (r"(\d[\d,]*) of proofs", lines_of("proofs", ".antt"))]
     for name in prose.documents():
