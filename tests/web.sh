@@ -55,7 +55,7 @@ part "cobs.wasm is at most 75,776 bytes" is_small "$web/cobs.wasm" 75776
 
 if has "$node" nodejs "Node"; then
     if ! "$node" --input-type=module -e "import { isSupported } from '$web/jcobs.js'; process.exit(isSupported() ? 0 : 1)" 2>"$work/said"; then
-        skip "Node" "$("$node" --version) is too old: version 20 or later is needed"
+        skip "Node" "$("$node" --version) is too old: version 20.16 or later is needed"
     else
         echo "Node $("$node" --version), without a flag"
         begin module "$node" --expose-gc "$web/test/module.mjs" "$web/cobs.wasm"
