@@ -96,8 +96,8 @@ COMMENTS = {
         " ahead or copy slices, so its code is small, and it is fast for a few bytes.",
         "",
     ), (
-        "The fields are assigned one by one. If the whole decoder is assigned, rustc needs 24 bytes more for a push on a"
-        " Cortex-M4.",
+        "The fields are assigned one by one. If the whole decoder is assigned, a push needs 24 bytes more flash on a"
+        " Cortex-M4, compiled by rustc.",
         "",
     )],
     "UnbufferedDecoder::step": [(

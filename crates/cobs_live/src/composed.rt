@@ -265,8 +265,8 @@ impl Composed {
         Ok(())
     }
 
-    /// Adds, in one copy, the characters before the first character that needs an escape. Then adds this character in
-    /// its escaped form. Returns the rest of the text.
+    /// Adds all characters before the first one that needs an escape, in a single copy operation. Then adds this
+    /// character in its escaped form. Returns the rest of the text.
     fn put_run<'a>(&mut self, text: &'a str) -> Result<&'a str, Full>
         ensures put { IfOk result (λ rest. WritesFront (contents_of self.old) (contents_of self.new) text.now rest.now) }
         ensures shorter { IfOk result (λ rest. 0 < length text.now → length rest.now < length text.now) }

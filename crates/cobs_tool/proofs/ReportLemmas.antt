@@ -184,7 +184,8 @@ still_few reader source reader' source' outcome most piece few =
     let fewer = piece.fewer in
     omega (arith, length-append reader.kept (bytes_left source), length-append reader'.kept (bytes_left source'))
 
--- at the start, all of the stream is still to be reported, and it has at most `most` bytes
+-- At the start, all of the stream is still to be reported, and it has at most `most` bytes. `left` is what the source
+-- still has.
 pub few_at_start : (kept left stream : List ℕ) (most : ℕ) → kept ≡ [] → left ≡ stream → length stream ≤ most → length (kept ++ left) ≤ most
 few_at_start kept left stream most nothing all few =
     let same : kept ++ left ≡ stream = ap (λ l. l ++ left) nothing ∙ all in

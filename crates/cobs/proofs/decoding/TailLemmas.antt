@@ -84,11 +84,11 @@ pub ends-ones : (n : ℕ) (h : List ℕ) (at : ℕ) → at + n ≤ length h → 
     → missing (last_part (take at h)) ≡ 0 → missing (last_part (take (at + n) h)) ≡ 0
 ends-ones zero h at fits ones ends = grind arith
 ends-ones (suc n) h at fits ones ends =
-    -- the first of the n codes is 1 (`one`), and so are the others (`others`)
+    -- the first of the n + 1 codes is 1 (`one`), and so are the other n (`others`)
     let row = rw (drop_more h at 0 (omega arith)) at ones in
     let one : 1 ≡ get_or h at 0 = cc in
     let others : take n (drop (at + 1) h) ≡ replicate n 1 = cc in
-    -- the first block ends one byte later
+    -- the block of the first code ends one byte after `at`
     let next = ends-next h at 1 (omega arith) one ends (omega arith) (omega arith) in
     grind (arith, ends-ones n h (at + 1) (omega arith) others next)
 

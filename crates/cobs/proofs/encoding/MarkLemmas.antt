@@ -168,13 +168,13 @@ module _ {s : Start} {slice : List ℕ} {read len index next zeros d : ℕ} (m :
         -- `joined`: the j bytes join the open block; `closed`: the zero closes it
         let joined = Reaches-join m.reaches {Q = λ _. Unit {0}} m.room j (omega arith) (omega arith) nonzero here (λ full z p. tt) (λ z. tt) in
         let closed = Reaches-zero joined {Q = λ full. 0 < k + 1 → full ≡ false} m.room (omega arith) zero_at (omega arith) (λ lt. refl) in
-        -- `here'`: after the zero, the slice has the window's other bytes, because the code is written before them
+        -- `here'`: the slice still has the bytes that come after the zero, because the code is written before them
         let long = length-set slice index (next + k - index) in
         let here' : take (len - (k + 1)) (drop (next + (k + 1)) (set slice index (next + k - index)))
         ≡ take (len - (k + 1)) (drop (read + (k + 1)) s.source) =
         ap (take _) (drop-set-lt (next + (k + 1)) slice index _ (omega arith)) ∙ sym (cut slice next)
         ∙ ap (drop (j + 1)) m.here ∙ cut s.source read in
-        -- `bits`: without its lowest bit, the mask says which of these bytes are zeros
+        -- `bits`: without its lowest bit, the mask says which of the bytes after the zero are zeros
         let bits : without_lowest zeros ≡ mask_behind (k + 1) (take (len - (k + 1)) (drop (read + (k + 1)) s.source)) =
         ap without_lowest m.bits ∙ mask_behind-and d left small some_bits
         ∙ ap (λ n. mask_behind n (drop (j + 1) left)) (omega arith)

@@ -2,8 +2,8 @@
 -- says that the reads so far returned bytes, and that no piece has ended. A further read preserves `Going`
 -- (`Going-push`), or the call ends. For each end of the call a lemma shows `ReadsNext`: a piece ends in the kept bytes
 -- (`ReadsNext-kept`) or in the bytes of a read (`ReadsNext-piece`), the source ends (`ReadsNext-end`), a read fails
--- (`ReadsNext-failed`), or too many reads were made (`ReadsNext-too_many`). By `StreamLemmas`, which cut a stream in
--- two.
+-- (`ReadsNext-failed`), or too many reads were made (`ReadsNext-too_many`). The proofs use `StreamLemmas`, whose lemmas
+-- cut a stream in two.
 use Rattle.std.proofs.Common.{◌≡◌, ◌≢◌, ℕ, ◌+◌, ◌-◌, ◌<◌, ◌≤◌, Bool, true, false, List, [], ◌∷◌, ◌++◌, length, take, drop, refl, sym, ap, ◌∙◌, arith, append_assoc, length-append, length-take, length-drop, take_at, ◌↔◌, Result, Some, None, Ok, Err}
 use Rattle.std.specs.List.{All}
 use Rattle.std.proofs.lemmas.List.{append-nil, nil_from_length, take_all, take-append-le, take-append-drop, drop-take, drop-drop, flat_map_more, length_push, same_from_push}

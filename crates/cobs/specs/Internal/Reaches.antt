@@ -48,7 +48,7 @@ HadTaken start m = CobsEncoderAfter start.slice start.reached m
 
 -- After this start, the first `pos` bytes of the source were encoded. `slice` is the slice after that. Its open block
 -- begins at `index`, and the next byte belongs at `next`. After the whole source is encoded, the frame will end at the
--- same index as computed at the start, and the bytes after that index are as they were. P holds for the value that says
+-- same index as computed at the start, and the bytes from that index on are unchanged. P holds for the value that says
 -- whether the frame ends in a full block.
 pub record Reaches (start : Start) (slice : List ℕ) (pos index next : ℕ) (P : Bool → Type 0) : Type 0 where
   pub ordered : index < next

@@ -36,9 +36,9 @@ pub(crate) fn write_zeros_at_codes(dest: &mut [u8], first: usize) -> (u8, u8)
     write_zeros_at_codes(&mut dest[first..], code as usize)
 }
 
-/// Writes a zero over each code in `dest`, as [`write_zeros_at_codes`] does. `dest` contains the bytes of `copied`,
-/// each XORed with `sentinel`. The codes are read from `copied`, because a load from `dest` would have to wait until
-/// the copy is stored.
+/// Writes a zero over each code in `dest`, as [`write_zeros_at_codes`] does. Before the call, `dest` contains the bytes
+/// of `copied`, each XORed with `sentinel`. The codes are read from `copied`, because a load from `dest` would have to
+/// wait until the copy is stored.
 #[inline(always)]
 pub(crate) fn write_zeros_at_copied(
     dest: &mut [u8],

@@ -184,8 +184,8 @@ impl UnbufferedDecoder {
                 return Some((PieceEnd::TooLong, taken));
             }
         }
-        // The fields are assigned one by one. If the whole decoder is assigned, rustc needs 24 bytes more for a push on
-        // a Cortex-M4.
+        // The fields are assigned one by one. If the whole decoder is assigned, a push needs 24 bytes more flash on a
+        // Cortex-M4, compiled by rustc.
         self.written = here.written;
         self.missing = here.missing;
         self.joint = here.joint;

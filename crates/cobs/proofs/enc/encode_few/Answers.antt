@@ -1,5 +1,5 @@
 -- The message has one of the four lengths, so the front of this length that `encode_block` gets is the whole message.
--- The search that is made where no answer is written would take long.
+-- Without this answer, the prover's own search would take long.
 use Rattle.std.proofs.Common.{arith}
 use Rattle.std.proofs.lemmas.Grind.{common_steps}
 use Rattle.cobs.proofs.enc.encode_few.Goals as goal

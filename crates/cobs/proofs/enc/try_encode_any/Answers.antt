@@ -19,7 +19,7 @@ returns-clause-len c =
 pub returns-clause-no_sentinel : goal.returns-clause-no_sentinel
 returns-clause-no_sentinel c = encoded_nonzero (returns-clause-frame c)
 
--- `close` leaves the bytes after the frame as they were before `try_append`; the search that is made where no answer is
--- written would take long
+-- `close` leaves the bytes after the frame as they were before `try_append`; without this answer, the
+-- prover's own search would take long
 pub returns-clause-rest : goal.returns-clause-rest
 returns-clause-rest c = grind (arith, common_steps)

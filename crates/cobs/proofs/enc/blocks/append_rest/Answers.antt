@@ -7,8 +7,8 @@ use Rattle.std.proofs.lemmas.List.{take_rest}
 use Rattle.cobs.proofs.encoding.TakingLemmas.{front-next, next_steps}
 use Rattle.cobs.proofs.enc.blocks.append_rest.Goals as goal
 
--- the frame of the bytes that are left fits, because its end was computed before the first step (`left-end`); the
--- search that is made where no answer is written would take long for these two goals
+-- the frame of the bytes that are left fits, because its end was computed before the first step (`left-end`);
+-- without these two answers, the prover's own search would take long
 pub append_windows-front-requires-clause-fits : goal.append_windows-front-requires-clause-fits
 append_windows-front-requires-clause-fits c = grind (arith, next_steps)
 

@@ -89,7 +89,7 @@ opened c =
 pub by_byte-init : goal.by_byte-init
 by_byte-init c = grind (arith, opened)
 
--- the byte's place is within the slice; the search that is made where no answer is written would take long
+-- the byte's place is within the slice; without this answer, the prover's own search would take long
 pub bounds-dest-next : goal.bounds-dest-next
 bounds-dest-next c = grind (arith, common_steps)
 

@@ -1,5 +1,5 @@
 -- The lengths decide whether the frame fits, because it has at most `open_len-most` bytes (`short_room`); if they don't
--- decide, `fits` does. The search that is made where no answer is written would take long for these goals.
+-- decide, `fits` does. Without these answers, the prover's own search would take long.
 use Rattle.std.proofs.Common.{arith}
 use Rattle.cobs.proofs.encoding.TakingLemmas.{short_room}
 use Rattle.cobs.proofs.enc.room.try_append.Goals as goal

@@ -10,6 +10,6 @@ returns-clause-frame c = grind (arith, common_steps)
 pub returns-clause-no_sentinel : goal.returns-clause-no_sentinel
 returns-clause-no_sentinel c = delimited_nonzero (returns-clause-frame c)
 
--- the bytes after both sentinels are as they were; the search that is made where no answer is written would take long
+-- the bytes after both sentinels are as they were; without this answer, the prover's own search would take long
 pub returns-clause-rest : goal.returns-clause-rest
 returns-clause-rest c = grind (arith, behind_sentinels)

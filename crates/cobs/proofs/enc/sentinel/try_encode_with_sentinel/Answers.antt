@@ -11,7 +11,7 @@ returns-clause-frame c = grind (arith, length-take-le, take_at, xor_each-twice)
 pub returns-clause-no_sentinel : goal.returns-clause-no_sentinel
 returns-clause-no_sentinel c = encoded_free c.args.sentinel _ (returns-clause-frame c)
 
--- the bytes after the frame are as they were; the search that is made where no answer is written would take long
+-- the bytes after the frame are as they were; without this answer, the prover's own search would take long
 pub returns-clause-rest : goal.returns-clause-rest
 returns-clause-rest c = grind (arith, common_steps)
 

@@ -1,5 +1,5 @@
--- The vector is cut to the length that `encode_with_sentinel` returns, so that call's clauses hold for the vector. The
--- search that is made where no answer is written would take long for these two goals.
+-- The vector is cut to the length that `encode_with_sentinel` returns, so that call's clauses hold for the vector.
+-- Without these two answers, the prover's own search would take long.
 use Rattle.std.proofs.Common.{arith}
 use Rattle.std.proofs.lemmas.Grind.{common_steps}
 use Rattle.cobs.proofs.enc.vector.encode_vec_with_sentinel.Goals as goal

@@ -1,5 +1,5 @@
--- Both clauses are those of the `feed` of the decoder `inner`, for the bytes of the vector. The search would find this
--- too, but slowly.
+-- Both clauses are those of the `feed` of the decoder `inner`, for the bytes of the vector. Without this
+-- file, the prover's own search would find these proofs too, but slowly.
 use Rattle.std.proofs.Common.{arith}
 use Rattle.std.proofs.lemmas.Grind.{common_steps}
 use Rattle.cobs.proofs.dec.heapless.CobsDecoderHeapless.feed.Goals as goal
