@@ -98,11 +98,20 @@ def without_layout(text):
     return re.sub(r",(?=[)\]}])", "", re.sub(r"\s+", "", text))
 
 
+def each_test(text):
+    """The tests and functions of a text without imports, one by one."""
+    return re.split(r"\n(?=#\[test\]|/// )", text.strip())
+
+
 def write():
-    """Writes the tests of the examples below their imports. `rt fmt` lays them out then."""
+    """Writes the tests of the examples below their imports. A test of which only the layout would change stays as it is;
+    `rt fmt` lays out the others."""
     for name in SOURCES:
         path = TESTS / f"{name}.rt"
-        path.write_text(head_and_tests(path)[0] + as_tests(name).rstrip("\n") + "\n")
+        head, tests = head_and_tests(path)
+        there = {without_layout(test): test.strip() for test in each_test(tests)}
+        wanted = [there.get(without_layout(test), test.strip()) for test in each_test(as_tests(name))]
+        path.write_text(head + "\n\n".join(wanted) + "\n")
 
 
 def stale_tests():
@@ -114,8 +123,8 @@ def stale_tests():
             yield f"{path.relative_to(TOP)}: SOURCES in tests/examples.py doesn't name it"
     for name in SOURCES:
         path = TESTS / f"{name}.rt"
-        found = re.split(r"\n(?=#\[test\]|/// )", head_and_tests(path)[1].strip())
-        wanted = re.split(r"\n(?=#\[test\]|/// )", as_tests(name).strip())
+        found = each_test(head_and_tests(path)[1])
+        wanted = each_test(as_tests(name))
         if [*map(without_layout, found)] != [*map(without_layout, wanted)]:
             differ = [one for one in wanted if without_layout(one) not in map(without_layout, found)]
             about = re.search(r"fn (\w+)", (differ or found)[0])

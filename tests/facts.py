@@ -34,8 +34,8 @@ def cases(calls=".*"):
 
 
 def calls_on_device():
-    """The names of the calls whose cases bindings/rust/tests/device.sh runs, as a regular expression."""
-    return re.search(r"awk '\$3 ~ /\^(\([\w|]+\))\$/'", (TOP / "bindings/rust/tests/device.sh").read_text())[1]
+    """The names of the calls whose cases are run on devices, as a regular expression."""
+    return re.search(r"^calls='([\w|]+)'$", (TOP / "tests/device.sh").read_text(), re.M)[1]
 
 
 def lines_of(kind, suffix):

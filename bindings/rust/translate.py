@@ -567,7 +567,10 @@ def name_of(head):
 
 
 def main():
-    to, crates = map(Path, [*sys.argv[1:], *[HERE / "src/proved", HERE / "../../crates"][len(sys.argv) - 1 :]])
+    words = sys.argv[1:]
+    if len(words) > 2 or any(word.startswith("-") for word in words):
+        sys.exit(__doc__)
+    to, crates = map(Path, [*words, *[HERE / "src/proved", HERE / "../../crates"][len(words) :]])
     find_left_out(crates)
     sources, written, seen = list(prepared(crates)), [], set()
     find_needing([translated(source) for source, _ in sources])

@@ -204,7 +204,10 @@ def want_used(out):
 
 def main():
     words = [it for it in sys.argv[1:] if it != "--check"]
-    made, out = translated(Path(words[0]).resolve() if words else HERE.parents[2] / "crates")
+    crates = Path(words[0]).resolve() if words else HERE.parents[2] / "crates"
+    if len(words) > 1 or not (crates / "cobs_small/src").is_dir():
+        sys.exit(__doc__)
+    made, out = translated(crates)
     if not words:
         want_used(out)
     for target in (HERE / "jcobs.c", HERE.parent / "device/src/jcobs.c"):

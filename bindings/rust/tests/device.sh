@@ -54,9 +54,9 @@ builds() { # TARGET
         crate "$1" jcobs "$rust/src/lib.rs" --edition 2021 --extern "memchr=$work/$1/libmemchr.rlib"
 }
 
-# Selects the cases whose calls the archives for devices have, as tests/device.sh does.
-awk '$3 ~ /^(encode_vec|encode|try_encode|encoder|encode_frames|decode_vec|decode|decode_in_place|decode_in_place_report|frame_kind|decoder|decode_stream|max_encoding_length|max_encoding_overhead)$/' \
-    "$root"/conformance/*.txt >"$work/cases"
+# The cases whose calls the archives for devices have. The list of these calls is in tests/device.sh.
+calls=$(sed -n "s/^calls='\(.*\)'\$/\1/p" "$root/tests/device.sh")
+awk -v calls="^($calls)\$" '$3 ~ calls' "$root"/conformance/*.txt >"$work/cases"
 c=$root/bindings/c
 tests=$c/device/tests
 
