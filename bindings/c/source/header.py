@@ -25,9 +25,11 @@ SAYS = {
     "EncodesTerminated 0 ": """if the frame of the message and the zero fit, the buffer begins with them, and the bytes after
         them are as they were. Otherwise the status is TOO_SMALL, and the buffer is as it was.""",
     "Finishes 0 ": """if the frame of all bytes that were taken fits, the buffer begins with it, and the encoder is in its
-        initial state. Otherwise the status is TOO_SMALL, and the state and the buffer are as they were.""",
+        initial state. Otherwise the status is TOO_SMALL, and the state and the buffer are as they were. In every state
+        consumed is 0, and length is at most buffer_size.""",
     "Finishes 1 ": """if the frame of all bytes that were taken and the zero fit, the buffer begins with them, and the encoder is
-        in its initial state. Otherwise the status is TOO_SMALL, and the state and the buffer are as they were.""",
+        in its initial state. Otherwise the status is TOO_SMALL, and the state and the buffer are as they were. In every
+        state consumed is 0, and length is at most buffer_size.""",
     "IsFreshDecoder ": "after the call the decoder has taken no byte, whatever its state was.",
     "IsFreshEncoder ": "after the call the encoder has taken no byte, whatever its state was.",
     "IsKindOf ": """the result is NOT_A_FRAME if and only if the bytes aren't a frame, and CANONICAL if and only if they are a

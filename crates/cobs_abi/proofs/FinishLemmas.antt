@@ -55,7 +55,7 @@ module _ (free : (f : List ℕ) (s : ℕ) → IsFrame f → All (λ byte. byte �
               rest = behind ∙ w.rest;
             };
         -- the XOR changes neither the result nor the encoder, so these fields are those of the call before the XOR
-        place = f.place;
+        returned = f.returned;
         fresh = f.fresh;
         too_small = f.too_small;
         rejected = f.rejected;
@@ -84,7 +84,7 @@ module _ {encoder encoder' : UnbufferedEncoder} {buffer buffer' : List ℕ} wher
       too_small = λ long. absurd (omega (arith, long, len m h, within));
       rest = rest;
     };
-    place = λ _. omega (arith, end);
+    returned = λ _. ap (λ (n : ℕ). record { status = OK; consumed = 0; length = n }) (omega (arith, end));
     fresh = λ _. fresh;
     -- the status is OK, and the buffer isn't empty (`some`), so the premises of these three fields are false
     too_small = λ other. absurd (other refl);
@@ -102,7 +102,7 @@ module _ {encoder encoder' : UnbufferedEncoder} {buffer buffer' : List ℕ} wher
   Finishes-refused none same kept = record {
     writes = λ m h. absurd (none m h);
     -- the status isn't OK, so the premises of these two fields are false
-    place = λ ok. absurd (omega (arith, ok));
+    returned = λ ok. absurd (omega (arith, ok));
     fresh = λ ok. absurd (omega (arith, ok));
     -- the result is the one that these fields state, and nothing has changed (`same`, `kept`)
     too_small = λ _. refl;
@@ -140,28 +140,34 @@ module _ (counted : (f m : List ℕ) → IsEncodedFrame f m → length f ≡ enc
     -- if that call succeeded, the frame and the terminator together meet `Finishes 1`
     pub Finishes-terminated : ((x m : List ℕ) → IsWanted x m → IsEnded (x ++ s ∷ []) m) → result.status ≡ OK
         → Finishes 1 IsEnded encoder buffer (record { status = OK; consumed = result.consumed; length = result.length + 1 }) encoder' (set (part ++ drop last buffer) result.length s)
-    Finishes-terminated ended ok = let front : length (take last buffer) ≡ last = length-take-le last buffer (omega arith) in record {
-      writes = λ m h.
-          -- the frame of m fits the buffer without its last byte, so the encoder has taken m there too (`After-front`),
-          -- and `w` is the fact `Writes` of the call for m
-          let fits : encoded_len m ≤ last = omega (arith, f.place ok, end buffer m (reached_by encoder) h, f.bound, front) in
-          let w = f.writes m (After-front buffer m (reached_by encoder) last (omega arith) fits h) in
-          -- the frame and the terminator have one byte more than the frame
-          let size : encoded_len m + 0 + 1 ≡ encoded_len m + 1 = omega arith in
-          subst (λ (n : ℕ). Writes n 0 (λ bytes. IsEnded bytes m) buffer (record { status = OK; consumed = result.consumed; length = result.length + 1 }) (set (part ++ drop last buffer) result.length s))
-          size (Writes-terminated last s room len w ok (λ (x : List ℕ) e. ended x m e));
-      -- the length is one more than that of the call before, and the encoder is fresh
-      place = λ _. omega (arith, f.place ok);
-      fresh = λ _. f.fresh ok;
-      -- the status is OK, and the buffer has at least one byte, so the premises of these three fields are false
-      too_small = λ other. absurd (other refl);
-      rejected = λ other. absurd (other refl);
-      empty = λ none. absurd (omega arith);
-      -- the bytes after the terminator are unchanged, since the call changed no byte after the frame
-      rest = behind_terminator buffer part last result.length s len (omega arith) (omega (arith, f.bound, front)) f.rest;
-      bound = omega (arith, f.bound, front);
-      len = length-set (part ++ drop last buffer) result.length s ∙ length-append part (drop last buffer) ∙ omega (arith, length-drop last buffer);
-    }
+    Finishes-terminated ended ok =
+        let front : length (take last buffer) ≡ last = length-take-le last buffer (omega arith) in
+        -- the length is the index at which the encoder's frame ends (`end_at`), and no byte was consumed (`consumed`)
+        let end_at : result.length ≡ end_of (reached_by encoder) + 0 = ap (λ (a : Answer). a.length) (f.returned ok) in
+        let consumed : result.consumed ≡ 0 = ap (λ (a : Answer). a.consumed) (f.returned ok) in
+        record {
+          writes = λ m h.
+              -- the frame of m fits the buffer without its last byte, so the encoder has taken m there too
+              -- (`After-front`), and `w` is the fact `Writes` of the call for m
+              let fits : encoded_len m ≤ last = omega (arith, end_at, end buffer m (reached_by encoder) h, f.bound, front) in
+              let w = f.writes m (After-front buffer m (reached_by encoder) last (omega arith) fits h) in
+              -- the frame and the terminator have one byte more than the frame
+              let size : encoded_len m + 0 + 1 ≡ encoded_len m + 1 = omega arith in
+              subst (λ (n : ℕ). Writes n 0 (λ bytes. IsEnded bytes m) buffer (record { status = OK; consumed = result.consumed; length = result.length + 1 }) (set (part ++ drop last buffer) result.length s))
+              size (Writes-terminated last s room len w ok (λ (x : List ℕ) e. ended x m e));
+          -- the length is one more than that of the call before, and the encoder is fresh
+          returned = λ _. ap (λ (n : ℕ). record { status = OK; consumed = n; length = result.length + 1 }) consumed
+              ∙ ap (λ (n : ℕ). record { status = OK; consumed = 0; length = n }) (omega (arith, end_at));
+          fresh = λ _. f.fresh ok;
+          -- the status is OK, and the buffer has at least one byte, so the premises of these three fields are false
+          too_small = λ other. absurd (other refl);
+          rejected = λ other. absurd (other refl);
+          empty = λ none. absurd (omega arith);
+          -- the bytes after the terminator are unchanged, since the call changed no byte after the frame
+          rest = behind_terminator buffer part last result.length s len (omega arith) (omega (arith, f.bound, front)) f.rest;
+          bound = omega (arith, f.bound, front);
+          len = length-set (part ++ drop last buffer) result.length s ∙ length-append part (drop last buffer) ∙ omega (arith, length-drop last buffer);
+        }
 
     -- if that call failed, the frame and the terminator don't fit the buffer either, and nothing has changed
     pub Finishes-no_room : result.status ≢ OK → Finishes 1 IsEnded encoder buffer result encoder' (part ++ drop last buffer)
@@ -192,7 +198,7 @@ module _ (counted : (f m : List ℕ) → IsEncodedFrame f m → length f ≡ enc
                 rest = rest;
               };
           -- the status isn't OK, so the premises of these two fields are false
-          place = λ ok. absurd (other ok);
+          returned = λ ok. absurd (other ok);
           fresh = λ ok. absurd (other ok);
           -- the result and the encoder are those of the call that failed, and no byte has changed (`rest`)
           too_small = f.too_small;

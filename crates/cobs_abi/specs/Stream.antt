@@ -67,7 +67,8 @@ pub record Finishes (added : ℕ) (IsWanted : List ℕ → List ℕ → Type 0) 
   pub writes : (m : List ℕ) → CobsEncoderAfter buffer (reached_by encoder) m
       → Writes (encoded_len m + added) 0 (λ bytes. IsWanted bytes m) buffer result buffer'
   -- the remaining fields hold in every state, even a corrupt one
-  pub place : result.status ≡ OK → result.length ≡ end_of (reached_by encoder) + added
+  pub returned : result.status ≡ OK
+      → result ≡ record { status = OK; consumed = 0; length = end_of (reached_by encoder) + added }
   pub fresh : result.status ≡ OK → IsFreshEncoder encoder'
   pub too_small : result.status ≢ OK → result ≡ record { status = TOO_SMALL; consumed = 0; length = 0 }
   pub rejected : result.status ≢ OK → encoder' ≡ encoder

@@ -1009,7 +1009,7 @@ static jcobs_frame_length jcobs_encoder_close(jcobs_encoder *encoder, unsigned c
  * accessed, and the returned `length` is at most the buffer's length.
  * Proved, by the contract in encoder.rt: if the frame of all bytes that were taken fits, the buffer begins with
  * it, and the encoder is in its initial state. Otherwise the status is TOO_SMALL, and the state and the buffer are
- * as they were. */
+ * as they were. In every state consumed is 0, and length is at most buffer_size. */
 jcobs_answer jcobs_encoder_finish(jcobs_encoder *encoder, void *buffer, size_t buffer_size)
 {
     /* No frame fits an empty buffer. Without this test, the call could return a frame of 0 bytes if the state is
@@ -1030,7 +1030,7 @@ jcobs_answer jcobs_encoder_finish(jcobs_encoder *encoder, void *buffer, size_t b
  * don't fit the buffer, nothing changes.
  * Proved, by the contract in encoder.rt: if the frame of all bytes that were taken and the zero fit, the buffer
  * begins with them, and the encoder is in its initial state. Otherwise the status is TOO_SMALL, and the state and
- * the buffer are as they were. */
+ * the buffer are as they were. In every state consumed is 0, and length is at most buffer_size. */
 jcobs_answer jcobs_encoder_finish_terminated(jcobs_encoder *encoder, void *buffer, size_t buffer_size)
 {
     unsigned char *const buffer_bytes = (unsigned char *)buffer;
