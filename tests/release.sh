@@ -170,7 +170,7 @@ node_package() {
 
 rust_crate() {
     names_repository "$tree/bindings/rust/Cargo.toml" '^license = ' "repository = \"$repository\"" || return 1
-    [ -z "$repository" ] || sed -i "s,path = \"\.\./jirompeka/bindings/rust\",version = \"${version%.*}\"," "$tree/bindings/rust/README.md"
+    [ -z "$repository" ] || sed -i "s,path = \"\.\./jirompeka/bindings/rust\",version = \"${version%.*}\"," "$tree/bindings/rust/README.md" "$tree/bindings/rust/src/lib.rs"
     (cd "$tree/bindings/rust" && cargo package --offline --no-verify --allow-dirty --target-dir "$work/cargo") &&
         cp "$work/cargo/package/$name_of.crate" "$folder" &&
         ! tar -xOzf "$folder/$name_of.crate" "$name_of/Cargo.toml" | grep '^publish'
