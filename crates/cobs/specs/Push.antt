@@ -77,7 +77,7 @@ pub record PushesBytes (buffer : List ℕ) (phase : Phase) (bytes : List ℕ)
   -- the push reports each piece that ended in the bytes that were consumed
   pub outcomes : (p : List ℕ) → DecoderAfter buffer phase p
       → stream_outcomes (p ++ consumed bytes result) (length buffer) ≡ pushed_outcomes bytes result buffer'
-  -- whatever the phase is, the push does the same as feeding the consumed bytes one after another
+  -- whatever the phase is, `Feeds` holds for each of the consumed bytes, one after another
   pub feeds : FeedsInTurn buffer phase (consumed bytes result) (last_result result) buffer' phase'
   -- if the result isn't `Ok(None)`, at least one byte was consumed
   pub some : last_result result ≢ Ok None → 0 < consumed_size bytes result

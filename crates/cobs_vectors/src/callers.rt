@@ -90,9 +90,10 @@ pub fn decode_known_short(frame: &[u8], dest: &mut [u8]) -> bool
 }
 
 /// Decodes a source that is one short piece, with or without a zero after it. If the function returns true, all bytes
-/// of the source were consumed: at most one byte follows the piece.
+/// of the source were consumed: at most one byte follows the piece. And the output fits `dest`.
 pub fn decode_only_frame(source: &[u8], dest: &mut [u8]) -> bool
-    ensures { IsTrue result → length source.now ≤ length (head source.now) + 1 }
+    ensures consumed { IsTrue result → length source.now ≤ length (head source.now) + 1 }
+    ensures room { IsTrue result → length (head source.now) ≤ length dest.old + 1 }
 {
     decode_short(source, dest).is_some()
 }

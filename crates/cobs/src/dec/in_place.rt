@@ -134,7 +134,8 @@ fn decode_span_in_place(buffer: &mut [u8], len: usize) -> bool
     ensures taken { (2 ≤ len) × (len ≤ 65) → HasNoZero (take len buffer.old)
         → missing (last_part (take len buffer.old)) ≡ 0 → IsTrue result }
     ensures nonzero { IsTrue result → HasNoZero (take len buffer.old) }
-    ensures some { IsTrue result → 0 < len }
+    ensures some { IsTrue result → 2 ≤ len }
+    ensures few { IsTrue result → len ≤ 65 }
     ensures returned { IsTrue result → Ok (len - 1) ≡ head_result (take len buffer.old) }
     ensures buffer { IsTrue result → buffer.new ≡ overwritten buffer.old (kept_output (take len buffer.old)) }
     ensures kept { result ≡ false → buffer.new ≡ buffer.old }
@@ -227,6 +228,7 @@ pub fn decode_in_place_report(buf: &mut [u8]) -> Result<DecodeReport, DecodeErro
 #[inline(always)]
 pub fn decode_short_in_place(buf: &mut [u8]) -> Option<DecodeReport>
     ensures taken { IsShortPiece buf.old → missing (last_part (head buf.old)) ≡ 0 → IsSome result }
+    ensures short { IfSome result (λ report. IsShortPiece buf.old) }
     ensures returned { IfSome result (λ report. Ok report ≡ in_place_report buf.old) }
     ensures buffer { IfSome result (λ report. buf.new ≡ in_place buf.old) }
     ensures kept { result ≡ None → buf.new ≡ buf.old }

@@ -104,6 +104,7 @@ fn decode_long(source: &[u8], dest: &mut [u8]) -> Result<DecodeReport, DecodeErr
 pub fn decode_short(source: &[u8], dest: &mut [u8]) -> Option<Result<DecodeReport, DecodeError>>
     ensures taken { IsShortPiece source.now → length (head source.now) ≤ length dest.old + 1 → IsSome result }
     ensures short { IfSome result (λ returned. IsShortPiece source.now) }
+    ensures room { IfSome result (λ returned. length (head source.now) ≤ length dest.old + 1) }
     ensures returned { IfSome result (λ returned. returned ≡ result_of_decode source.now (length dest.old)) }
     ensures buffer { IfSome result (λ returned. dest.new ≡ overwritten dest.old (first_output source.now)) }
     ensures kept { result ≡ None → dest.new ≡ dest.old }

@@ -15,6 +15,10 @@ returns-clause-returned c = grind (arith, front_is_head, in_place_report-decoded
 pub returns-clause-buffer : goal.returns-clause-buffer
 returns-clause-buffer c = grind (arith, front_is_head)
 
+-- the decoded bytes are the buffer's head; they are 2 to 65 bytes, and at most one byte follows them
+pub returns-clause-short : goal.returns-clause-short
+returns-clause-short c = grind (arith, front_is_head, length-take-le)
+
 -- an empty buffer isn't a short frame
 pub returns-then-is_empty-clause-taken : goal.returns-then-is_empty-clause-taken
 returns-then-is_empty-clause-taken c short whole = grind (arith, length-head)

@@ -67,6 +67,10 @@ module _ (c : goal.After-map) where
 pub returns-clause-short : goal.returns-clause-short
 returns-clause-short c = grind (arith, long, head-len)
 
+-- the buffer has room for the output of `decode_span`, whose bytes are the piece
+pub returns-clause-room : goal.returns-clause-room
+returns-clause-room c = omega (arith, c.in_ok-left.ensures.room, ap length (same c), long c, head-len c)
+
 -- the result is the one that the outcome of p gives (`answer`), and the whole source is consumed (`parsed`)
 pub returns-clause-returned : goal.returns-clause-returned
 returns-clause-returned c =
