@@ -10,7 +10,7 @@ use crate::short::words_of;
 use std::alloc::{AllocError, Global};
 
 /// The verdict on a line: whether the line's call has the expected result.
-#[derive(Debug, Drop)]
+#[derive(Drop)]
 pub enum Verdict {
     /// The line is empty or a comment.
     NoCase,
@@ -24,7 +24,7 @@ pub enum Verdict {
 }
 
 /// The words of a case, grouped by meaning.
-#[derive(Debug, Drop)]
+#[derive(Drop)]
 struct Case<'a> {
     name: &'a str,
     call: &'a str,
