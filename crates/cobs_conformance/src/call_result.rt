@@ -4,7 +4,7 @@ use cobs::{DecodeError, DecodeReport, DestBufTooSmallError, FrameOutcome};
 use std::alloc::{AllocError, Global};
 
 /// The result of a call, as the words that follow `->` in a case.
-#[derive(Debug, Drop)]
+#[derive(Drop)]
 pub struct CallResult {
     alloc: Global,
     words: Vec<String>,

@@ -1,15 +1,16 @@
 //! Runs one case: reads the line, makes the call, and compares the result with the expected one.
-ghost use Rattle.std.specs.Prelude.{◌≡◌, ◌↔◌, ◌+◌, length, slice_index_or, IfSome};
+ghost use Rattle.std.specs.Prelude.{◌≡◌, ◌≢◌, ◌↔◌, ◌+◌, length, slice_index_or, IfSome};
 ghost use Rattle.cobs_conformance.specs.Case.{IsNoCase};
 
 use crate::agree::agree;
 use crate::call::result_of_call;
+use crate::call_result::CallResult;
 use crate::fault::CaseFault;
 use crate::short::words_of;
 use std::alloc::{AllocError, Global};
 
 /// The verdict on a line: whether the line's call has the expected result.
-#[derive(Debug, Drop)]
+#[derive(Drop)]
 pub enum Verdict {
     /// The line is empty or a comment.
     NoCase,
@@ -23,7 +24,7 @@ pub enum Verdict {
 }
 
 /// The words of a case, grouped by meaning.
-#[derive(Debug, Drop)]
+#[derive(Drop)]
 struct Case<'a> {
     name: &'a str,
     call: &'a str,
@@ -38,6 +39,13 @@ pub fn verdict_of(alloc: Global, line: &str) -> Result<Verdict, AllocError>
     if line.is_empty() || line.starts_with('#') {
         return Ok(Verdict::NoCase);
     }
+    verdict_of_case(alloc, line)
+}
+
+/// Makes the call of a line that is neither empty nor a comment, and compares the results.
+fn verdict_of_case(alloc: Global, line: &str) -> Result<Verdict, AllocError>
+    ensures some_verdict { result ≢ Ok Verdict.NoCase }
+{
     let texts = match words_of(alloc, line) {
         Ok(texts) => texts,
         Err(CaseFault::OutOfMemory) => return Err(AllocError),
@@ -49,14 +57,7 @@ pub fn verdict_of(alloc: Global, line: &str) -> Result<Verdict, AllocError>
     };
     let name = case.name;
     match result_of_call(alloc, case.call, case.arguments) {
-        Ok(returned) => {
-            if agree(case.wanted, returned.words()) {
-                return Ok(Verdict::Agrees);
-            }
-            let wanted = joined(alloc, case.wanted)?;
-            let came = returned.text()?;
-            Ok(Verdict::Differs(format!(in alloc; "{name}: wanted {wanted}, came {came}")?))
-        }
+        Ok(returned) => compared(alloc, &case, &returned),
         Err(CaseFault::Malformed) => Ok(Verdict::Differs(format!(in alloc;
             "{name}: arguments that no call takes"
         )?)),
@@ -65,6 +66,19 @@ pub fn verdict_of(alloc: Global, line: &str) -> Result<Verdict, AllocError>
         )?)),
         Err(CaseFault::OutOfMemory) => Err(AllocError),
     }
+}
+
+/// Compares the result of a case's call with the expected result.
+fn compared(alloc: Global, case: &Case, returned: &CallResult) -> Result<Verdict, AllocError>
+    ensures some_verdict { result ≢ Ok Verdict.NoCase }
+{
+    if agree(case.wanted, returned.words()) {
+        return Ok(Verdict::Agrees);
+    }
+    let name = case.name;
+    let wanted = joined(alloc, case.wanted)?;
+    let came = returned.text()?;
+    Ok(Verdict::Differs(format!(in alloc; "{name}: wanted {wanted}, came {came}")?))
 }
 
 /// Groups the words of a line by meaning, or returns `None` if the line isn't a case.

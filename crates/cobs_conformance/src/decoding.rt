@@ -2,7 +2,7 @@
 use crate::arguments::{NONE, byte_of, bytes_of};
 use crate::call_result::CallResult;
 use crate::fault::CaseFault;
-use cobs::{DecodeVecError, FrameKind};
+use cobs::{DecodeError, DecodeReport, DecodeVecError, FrameKind};
 use std::alloc::Global;
 
 /// Runs `decode_vec`, which returns the message.
@@ -35,10 +35,7 @@ pub fn decode(alloc: Global, arguments: &[&str]) -> Result<CallResult, CaseFault
     let source = bytes_of(alloc, source)?;
     let mut buffer = bytes_of(alloc, buffer)?;
     let report = cobs::decode(&source, &mut buffer);
-    let mut returned = CallResult::new(alloc);
-    returned.say_report(&report)?;
-    returned.say_bytes(&buffer)?;
-    Ok(returned)
+    said_report(alloc, &report, &buffer)
 }
 
 /// Runs `decode_with_sentinel`, which decodes a frame for a sentinel and writes the message to a buffer.
@@ -50,10 +47,7 @@ pub fn decode_with_sentinel(alloc: Global, arguments: &[&str]) -> Result<CallRes
     let source = bytes_of(alloc, source)?;
     let mut buffer = bytes_of(alloc, buffer)?;
     let decoded = cobs::decode_with_sentinel(&source, &mut buffer, sentinel);
-    let mut returned = CallResult::new(alloc);
-    returned.say_decoded(&decoded)?;
-    returned.say_bytes(&buffer)?;
-    Ok(returned)
+    said_decoded(alloc, &decoded, &buffer)
 }
 
 /// Runs `decode_in_place`, which decodes a frame in place.
@@ -63,10 +57,7 @@ pub fn decode_in_place(alloc: Global, arguments: &[&str]) -> Result<CallResult, 
     };
     let mut buffer = bytes_of(alloc, buffer)?;
     let decoded = cobs::decode_in_place(&mut buffer);
-    let mut returned = CallResult::new(alloc);
-    returned.say_decoded(&decoded)?;
-    returned.say_bytes(&buffer)?;
-    Ok(returned)
+    said_decoded(alloc, &decoded, &buffer)
 }
 
 /// Runs `decode_in_place_report`, which decodes a frame in place, and returns the number of consumed bytes and the
@@ -77,10 +68,7 @@ pub fn decode_in_place_report(alloc: Global, arguments: &[&str]) -> Result<CallR
     };
     let mut buffer = bytes_of(alloc, buffer)?;
     let report = cobs::decode_in_place_report(&mut buffer);
-    let mut returned = CallResult::new(alloc);
-    returned.say_report(&report)?;
-    returned.say_bytes(&buffer)?;
-    Ok(returned)
+    said_report(alloc, &report, &buffer)
 }
 
 /// Runs `decode_in_place_with_sentinel`, which decodes, in place, a frame for a sentinel.
@@ -94,10 +82,7 @@ pub fn decode_in_place_with_sentinel(
     let sentinel = byte_of(alloc, sentinel)?;
     let mut buffer = bytes_of(alloc, buffer)?;
     let decoded = cobs::decode_in_place_with_sentinel(&mut buffer, sentinel);
-    let mut returned = CallResult::new(alloc);
-    returned.say_decoded(&decoded)?;
-    returned.say_bytes(&buffer)?;
-    Ok(returned)
+    said_decoded(alloc, &decoded, &buffer)
 }
 
 /// Runs `frame_kind`, which returns the kind of the bytes: a frame that encoders write, another frame, or no frame.
@@ -112,6 +97,30 @@ pub fn frame_kind(alloc: Global, arguments: &[&str]) -> Result<CallResult, CaseF
     };
     let mut returned = CallResult::new(alloc);
     returned.say(kind)?;
+    Ok(returned)
+}
+
+/// Returns the words for the result of a call that returns the message's length, and the buffer after the call.
+fn said_decoded(
+    alloc: Global,
+    decoded: &Result<usize, DecodeError>,
+    buffer: &[u8],
+) -> Result<CallResult, CaseFault> {
+    let mut returned = CallResult::new(alloc);
+    returned.say_decoded(decoded)?;
+    returned.say_bytes(buffer)?;
+    Ok(returned)
+}
+
+/// Returns the words for the result of a call that returns a report, and the buffer after the call.
+fn said_report(
+    alloc: Global,
+    report: &Result<DecodeReport, DecodeError>,
+    buffer: &[u8],
+) -> Result<CallResult, CaseFault> {
+    let mut returned = CallResult::new(alloc);
+    returned.say_report(report)?;
+    returned.say_bytes(buffer)?;
     Ok(returned)
 }
 

@@ -4,7 +4,7 @@ ghost use Rattle.std.specs.Prelude.{◌<◌, length};
 use crate::arguments::{byte_of, bytes_of, number_of};
 use crate::call_result::CallResult;
 use crate::fault::CaseFault;
-use cobs::CobsEncoder;
+use cobs::{CobsEncoder, DestBufTooSmallError};
 use std::alloc::Global;
 
 /// Runs `max_encoding_overhead`, which returns the greatest overhead that the encoded frame of a message of a given
@@ -129,10 +129,7 @@ pub fn try_encode(alloc: Global, arguments: &[&str]) -> Result<CallResult, CaseF
     let message = bytes_of(alloc, message)?;
     let mut buffer = bytes_of(alloc, buffer)?;
     let written = cobs::try_encode(&message, &mut buffer);
-    let mut returned = CallResult::new(alloc);
-    returned.say_written(&written)?;
-    returned.say_bytes(&buffer)?;
-    Ok(returned)
+    said_written(alloc, &written, &buffer)
 }
 
 /// Runs `try_encode_including_sentinels`, which writes a zero, the frame and another zero to a buffer if they fit.
@@ -146,10 +143,7 @@ pub fn try_encode_including_sentinels(
     let message = bytes_of(alloc, message)?;
     let mut buffer = bytes_of(alloc, buffer)?;
     let written = cobs::try_encode_including_sentinels(&message, &mut buffer);
-    let mut returned = CallResult::new(alloc);
-    returned.say_written(&written)?;
-    returned.say_bytes(&buffer)?;
-    Ok(returned)
+    said_written(alloc, &written, &buffer)
 }
 
 /// Runs `try_encode_with_sentinel`, which writes the frame for a sentinel to a buffer if it fits.
@@ -164,10 +158,7 @@ pub fn try_encode_with_sentinel(
     let message = bytes_of(alloc, message)?;
     let mut buffer = bytes_of(alloc, buffer)?;
     let written = cobs::try_encode_with_sentinel(&message, &mut buffer, sentinel);
-    let mut returned = CallResult::new(alloc);
-    returned.say_written(&written)?;
-    returned.say_bytes(&buffer)?;
-    Ok(returned)
+    said_written(alloc, &written, &buffer)
 }
 
 /// Runs a `CobsEncoder` that writes to `buffer`, the first argument. Pushes each other argument, a chunk of the message
@@ -229,6 +220,18 @@ fn said(alloc: Global, bytes: &[u8]) -> Result<CallResult, CaseFault> {
 fn said_in(alloc: Global, len: usize, buffer: &[u8]) -> Result<CallResult, CaseFault> {
     let mut returned = CallResult::new(alloc);
     returned.say_number(len)?;
+    returned.say_bytes(buffer)?;
+    Ok(returned)
+}
+
+/// Returns the words for the result of a call that writes if its result fits, and the buffer after the call.
+fn said_written(
+    alloc: Global,
+    written: &Result<usize, DestBufTooSmallError>,
+    buffer: &[u8],
+) -> Result<CallResult, CaseFault> {
+    let mut returned = CallResult::new(alloc);
+    returned.say_written(written)?;
     returned.say_bytes(buffer)?;
     Ok(returned)
 }

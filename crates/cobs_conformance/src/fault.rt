@@ -5,7 +5,7 @@ ghost use Rattle.cobs_conformance.specs.declared.fault.CaseFault.TheVariants.{Ou
 use std::alloc::{AllocError, AllocFailed};
 
 /// The reason why a case has no result that can be compared.
-#[derive(Debug, PartialEq, Eq, Drop)]
+#[derive(Drop)]
 pub enum CaseFault {
     /// The line isn't in the format: its call doesn't exist, the call has too few or too many arguments, or a word
     /// can't be parsed.

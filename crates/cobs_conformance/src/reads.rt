@@ -5,7 +5,7 @@ use cobs::FrameSource;
 use std::alloc::Global;
 
 /// The result of one read: a failure, or bytes.
-#[derive(Debug, Drop)]
+#[derive(Drop)]
 enum Reading {
     /// The read fails.
     Fails,
@@ -15,7 +15,7 @@ enum Reading {
 }
 
 /// A source with a list of the results of its reads. After the last result of the list, each read returns 0 bytes.
-#[derive(Debug, Drop)]
+#[derive(Drop)]
 pub struct Reads {
     reads: Vec<Reading>,
     made: usize,

@@ -15,7 +15,7 @@ use std::alloc::Global;
 const MOST_CALLS: usize = 1000;
 
 /// The calls that pass the bytes to a streaming decoder.
-#[derive(Debug, Drop)]
+#[derive(Drop)]
 enum Feeding {
     Pushes,
     Bytes,
@@ -23,6 +23,14 @@ enum Feeding {
     Zeros,
     /// Calls of `feed_piece`, which returns how each piece ended.
     Pieces,
+}
+
+/// The streaming decoders, which differ in where their buffer is.
+#[derive(Drop)]
+enum Storage {
+    Owned,
+    Borrowed,
+    Heapless,
 }
 
 /// The methods of streaming decoders that the cases need and that `FrameDecoder` doesn't have. They have no contracts,
@@ -115,20 +123,40 @@ pub fn decoder(alloc: Global, arguments: &[&str]) -> Result<CallResult, CaseFaul
     };
     let buffer = bytes_of(alloc, buffer)?;
     let mut returned = owned(alloc, &buffer, chunks, &Feeding::Pushes)?;
-    returned.append_other(owned(alloc, &buffer, chunks, &Feeding::Bytes)?)?;
-    returned.append_other(borrowed(alloc, &buffer, chunks, &Feeding::Pushes)?)?;
-    returned.append_other(borrowed(alloc, &buffer, chunks, &Feeding::Bytes)?)?;
-    returned.append_other(heapless(alloc, &buffer, chunks, &Feeding::Pushes)?)?;
-    returned.append_other(heapless(alloc, &buffer, chunks, &Feeding::Bytes)?)?;
+    'by_way: for (storage, feeding) in &[
+        (Storage::Owned, Feeding::Bytes),
+        (Storage::Borrowed, Feeding::Pushes),
+        (Storage::Borrowed, Feeding::Bytes),
+        (Storage::Heapless, Feeding::Pushes),
+        (Storage::Heapless, Feeding::Bytes),
+    ] {
+        returned.append_other(run(alloc, storage, &buffer, chunks, feeding)?)?;
+    }
     // `push` and single bytes have a result for the zero that ends a piece and, from the first byte that doesn't fit
     // the buffer on, for each byte of the piece. `feed_piece` has a result only for this zero. So the results of
     // `feed_piece` are compared with the results of single bytes for zeros (`ends`).
     let ends = owned(alloc, &buffer, chunks, &Feeding::Zeros)?;
-    returned.append_unlike(&ends, owned(alloc, &buffer, chunks, &Feeding::Pieces)?)?;
-    returned.append_unlike(&ends, borrowed(alloc, &buffer, chunks, &Feeding::Pieces)?)?;
-    returned.append_unlike(&ends, heapless(alloc, &buffer, chunks, &Feeding::Pieces)?)?;
+    'by_storage: for storage in &[Storage::Owned, Storage::Borrowed, Storage::Heapless] {
+        let pieces = run(alloc, storage, &buffer, chunks, &Feeding::Pieces)?;
+        returned.append_unlike(&ends, pieces)?;
+    }
     returned.append_unlike(&ends, by_bytes(alloc, &buffer, chunks)?)?;
     Ok(returned)
+}
+
+/// Runs the streaming decoder with this storage.
+fn run(
+    alloc: Global,
+    storage: &Storage,
+    buffer: &[u8],
+    chunks: &[&str],
+    feeding: &Feeding,
+) -> Result<CallResult, CaseFault> {
+    match storage {
+        Storage::Owned => owned(alloc, buffer, chunks, feeding),
+        Storage::Borrowed => borrowed(alloc, buffer, chunks, feeding),
+        Storage::Heapless => heapless(alloc, buffer, chunks, feeding),
+    }
 }
 
 /// Runs a decoder that owns its buffer.

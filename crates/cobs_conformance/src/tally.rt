@@ -5,7 +5,7 @@ ghost use Rattle.std.specs.Fmt.{decimal};
 use std::alloc::{AllocError, Global};
 
 /// The number of cases, and the number of cases whose result differs from the expected result.
-#[derive(Debug, Drop)]
+#[derive(Drop)]
 pub struct Tally {
     pub cases: u64,
     pub differing: u64,
