@@ -18,7 +18,6 @@ use Rattle.cobs.specs.declared.PieceEnd.{PieceEnd}
 use Rattle.cobs.specs.declared.PieceEnd.TheVariants as ends
 use Rattle.cobs_live.specs.Seen.{Ended, Seen, all_ended, ended_in, held, seen_message, seen_of, seen_piece, with_part}
 use Rattle.cobs_live.specs.declared.checksum.Checksum.{Checksum}
-use Rattle.cobs_live.specs.declared.seen.Kind.TheVariants.{Message}
 
 -- THE PIECES THAT HAVE ENDED
 

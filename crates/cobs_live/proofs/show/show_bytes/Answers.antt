@@ -3,6 +3,7 @@
 -- (`ShowsBytes-rest`).
 -- `law_9`: A stream may be cut anywhere.
 -- `law_12`: The first and the last piece of a stream.
+use Rattle.std.proofs.lemmas.Grind.{common_steps}
 use Rattle.std.proofs.Common.{◌≡◌, ◌+◌, ◌-◌, ◌++◌, ℕ, List, length, take, drop, refl, ap, sym, ◌∙◌, arith, length-take, length-drop, take_all}
 use Rattle.cobs.specs.FeedPiece.{outcome_at}
 use Rattle.cobs_live.specs.Seen.{Seen, seen_in}
@@ -59,3 +60,17 @@ by_part-preserved-in_default g c =
 pub returns-clause-shown : goal.returns-clause-shown
 returns-clause-shown g c = λ p d gone read t times r.
     ShowsBytes-through _ _ _ (rw (take_all c.by_part.at c.args.bytes.now (omega arith)) at (c.by_part.invariant.so_far p d gone read t times r)) c.in_ok-write_to.ensures.written
+
+-- the index of the next byte fits its type, and the index grows. Without this answer and the next three, the prover's
+-- own search would find the proofs too, but slowly.
+pub overflow_add-at : goal.overflow_add-at
+overflow_add-at g c = grind (arith, common_steps)
+
+pub overflow_add-at-in-by_part : goal.overflow_add-at-in-by_part
+overflow_add-at-in-by_part g c = grind (arith, common_steps)
+
+pub by_part-smaller-in_default : goal.by_part-smaller-in_default
+by_part-smaller-in_default g c = grind (arith, common_steps)
+
+pub by_part-smaller : goal.by_part-smaller
+by_part-smaller g c = grind (arith, common_steps)

@@ -35,3 +35,17 @@ returns c =
           ∙ table_step c.args.self.now.params.poly c.args.register c.if-self.first poly (omega arith) first
           ∙ ap (λ (first : ℕ). after_bits c.args.self.now.params.poly 8 (bit_xor c.args.register (2 ^ 24 * first))) (sym in_order);
     }
+
+-- the index of the look-up is within the table. Without this answer and the next three, the prover's own search would
+-- find the proofs too, but slowly.
+pub overflow_cast-top : goal.overflow_cast-top
+overflow_cast-top c = omega arith
+
+pub overflow_cast-result : goal.overflow_cast-result
+overflow_cast-result c = omega (arith, xor_lt 8 (c.args.register / 2 ^ 24) c.if-self.first (omega arith) (omega arith))
+
+pub offset_bounds-self-top : goal.offset_bounds-self-top
+offset_bounds-self-top c = omega (arith, xor_lt 8 (c.args.register / 2 ^ 24) c.if-self.first (omega arith) (omega arith))
+
+pub bounds-self-top : goal.bounds-self-top
+bounds-self-top c = xor_lt 8 (c.args.register / 2 ^ 24) c.if-self.first (omega arith) (omega arith)
