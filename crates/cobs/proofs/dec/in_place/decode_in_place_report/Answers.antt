@@ -11,12 +11,17 @@ use Rattle.cobs.proofs.dec.in_place.decode_in_place_report.Goals as goal
 -- `decode_blocks_in_place` returned an error
 pub returns-in_err-frame_size : goal.returns-in_err-frame_size
 returns-in_err-frame_size c =
-    in_place_clauses _ _ _ (grind (arith, front_is_head, in_place_report-rejected)) (grind (arith, front_is_head)) (bytes_below _ (search rules))
+    -- the bytes before `end` are the head of the buffer
+    let e = c.zero_or_len-end.ensures in
+    let front = front_is_head _ _ e.within e.before e.stop in
+    in_place_clauses _ _ _ (grind (arith, in_place_report-rejected)) (grind arith) (bytes_below _ (search rules))
 
 -- `decode_blocks_in_place` returned the message's length
 pub returns : goal.returns
 returns c =
-    in_place_clauses _ _ _ (grind (arith, front_is_head, in_place_report-decoded, length-take-le)) (grind (arith, front_is_head)) (bytes_below _ (search rules))
+    let e = c.zero_or_len-end.ensures in
+    let front = front_is_head _ _ e.within e.before e.stop in
+    in_place_clauses _ _ _ (grind (arith, in_place_report-decoded, length-take-le)) (grind arith) (bytes_below _ (search rules))
 
 -- `decode_short_in_place` decoded the frame
 pub returns-in-Some : goal.returns-in-Some

@@ -4,6 +4,7 @@
 -- (`put_back`).
 use Rattle.std.proofs.Common.{◌≡◌, ◌≢◌, ◌-◌, ◌<◌, ◌≤◌, ◌∷◌, ◌++◌, ◌∙◌, ℕ, List, Ok, length, take, drop, get_or, set, refl, sym, arith, length-drop, length-take-le, take-append-drop, take_at, drop_at, append-nil, replicate}
 use Rattle.std.proofs.lemmas.List.{drop_more}
+use Rattle.std.proofs.lemmas.Grind.{common_steps}
 use borrow.Rule.Slice.PartMut.{put_mid}
 use Rattle.cobs.specs.Decode.{head_result}
 use Rattle.cobs.specs.Grammar.{HasNoZero}
@@ -128,3 +129,8 @@ returns-clause-returned c _ =
 pub returns-clause-buffer : goal.returns-clause-buffer
 returns-clause-buffer c _ =
     buffer (moved (goal.at.returns-clause-buffer c).After-move_to_front) c.write_zeros_at_codes-left.ensures (omega arith)
+
+-- The copy is as long as the frame, over which it is written. Without this answer, the prover's own search would find
+-- the proof too, but slowly.
+pub copy_from_slice-requires : goal.copy_from_slice-requires
+copy_from_slice-requires c = grind (arith, common_steps)
