@@ -2,7 +2,8 @@
 # Is clang for prebuilt.sh: hardened.sh CLANG ARGUMENT..
 #
 # The module is compiled as rattle says, and besides:
-# - with call frame information (.debug_frame, which isn't loaded), so that a debugger names the caller of a call that crashes;
+# - on x86-64 with call frame information (.debug_frame, which isn't loaded), so that a debugger names the caller of a call that
+#   crashes; for aarch64, clang writes none;
 # - with landing pads at the calls and the notes which say so: IBT and SHSTK on x86-64, BTI on aarch64. A program that is hardened
 #   by these stays so only if all that it links has them;
 # - for x86-64 with no jump that touches a multiple of 32 bytes. Intel's processors from Skylake to Cascade Lake decode such a

@@ -111,17 +111,21 @@
  * jcobs_decode_with_sentinel and jcobs_decode_in_place_with_sentinel. If there is no sentinel, the frame ends at the
  * end of the source, and consumed is the source's length. So if a frame was cut off between two blocks, the blocks
  * before the cut are taken for a whole frame, and the status is OK. If your protocol ends each frame with a sentinel,
- * test whether source[consumed - 1] is the sentinel. This test also works after decoding in place, because no call
- * changes the sentinel or the bytes after it. The streaming decoder needs no such test: it reports a frame only when
- * the sentinel after the frame has arrived. COBS has no checksum: damage that turns a frame into another frame isn't
- * noticed.
+ * and the status is OK, test whether source[consumed - 1] is the sentinel. This test also works after
+ * jcobs_decode_in_place. It doesn't work after jcobs_decode_in_place_with_sentinel: this call changes the bytes of the
+ * frame, so the last byte of the frame may then be equal to the sentinel. Before this call, test whether the buffer
+ * contains the sentinel. The streaming decoder needs no such test: it reports a frame only when the sentinel after the
+ * frame has arrived. COBS has no checksum: damage that turns a frame into another frame isn't noticed.
  *
- * This paragraph is about the built library, libjcobs.a, and not about jcobs.c, which you compile yourself. On x86-64
- * the built library needs a processor with x86-64-v2 (SSE4.2 and POPCNT). Most Intel processors since 2009 and most AMD
- * processors since 2011 have these instructions. On aarch64 the library needs ARMv8-A. The library has call frame
- * information for debuggers, but no unwind tables. No call throws or unwinds. Each call begins with a landing pad
- * (endbr64 or bti c), so a program that is hardened with IBT, SHSTK or BTI stays hardened. The library calls only two
- * functions that it doesn't contain: memcpy and memmove.
+ * This paragraph is about the built library for Linux on x86-64 and aarch64. On x86-64 the built library needs a
+ * processor with x86-64-v2 (SSE4.2 and POPCNT). Most Intel processors since 2009 and most AMD processors since 2011
+ * have these instructions. On aarch64 the library needs ARMv8-A. The library for x86-64 has call frame information for
+ * debuggers; the library for aarch64 has none. Neither library has unwind tables. No call throws or unwinds. Each call
+ * begins with a landing pad (endbr64 or bti c), so a program that is hardened with IBT, SHSTK or BTI stays hardened.
+ * The library calls only two functions that it doesn't contain: memcpy and memmove.
+ *
+ * The file jcobs.c, which you compile yourself, has every call. The archives for microcontrollers have neither
+ * jcobs_strerror nor the calls whose names end in _with_sentinel.
  */
 #ifndef JCOBS_H
 #define JCOBS_H
@@ -213,9 +217,10 @@ typedef struct jcobs_encoder {
 
 /* With these attributes GCC and Clang check that the result of a call is used, and that a pointer to a state isn't
  * NULL. GCC also checks that a pointer that is passed with a length points to at least that many bytes. The macros'
- * parameters `pointer` and `length` are positions in the call's list of arguments. The calls that finish a message also
- * read the pushed bytes from the buffer, but are marked as calls that only write to the buffer. Otherwise, if no bytes
- * were pushed, GCC would warn that nothing has been written to the buffer. */
+ * parameters `pointer` and `length` are positions in the call's list of arguments. Two of the calls that finish a
+ * message, those with a sentinel, also read the pushed bytes from the buffer. But all calls that finish a message are
+ * marked as calls that only write to the buffer. Otherwise, if no bytes were pushed, GCC would warn that nothing has
+ * been written to the buffer. */
 #ifdef __GNUC__
 #define JCOBS_CHECKED __attribute__((warn_unused_result))
 #define JCOBS_STATE __attribute__((nonnull(1)))
@@ -238,9 +243,10 @@ typedef struct jcobs_encoder {
  * is 1.
  *
  * The macro JCOBS_MAX_LENGTH gives the same value as the function. If the argument is a constant, the macro is a
- * constant expression, so it can be the length of an array. If the value doesn't fit a size_t, the macro wraps around,
- * but the function returns 0. The value of the macro has the type size_t if the argument's type is unsigned and not
- * wider than size_t. The macro evaluates its argument more than once, and can't be used in #if. */
+ * constant expression, so it can be the length of an array. If the argument's type isn't wider than size_t, the value
+ * of the macro has an unsigned type that is as wide as size_t. In this case, if the length doesn't fit a size_t, the
+ * macro wraps around, but the function returns 0. The macro evaluates its argument more than once, and can't be used in
+ * #if. */
 #define JCOBS_MAX_LENGTH(message_len)                                                                                  \
     (sizeof(char) * (message_len) + sizeof(char) * (message_len) / 254 +                                               \
      (sizeof(char) * (message_len) % 254 != 0 || (message_len) == 0 ? 1 : 0))
@@ -279,7 +285,10 @@ JCOBS_API jcobs_answer jcobs_encode_terminated_with_sentinel(const void *message
 
 /* Encodes a message in its own buffer. Before the call the message, which has message_len bytes, begins at index
  * JCOBS_MAX_OVERHEAD(message_len) of the buffer; the bytes before this index have no effect. After the call the buffer
- * begins with the frame that jcobs_encode would write. */
+ * begins with the frame that jcobs_encode would write.
+ *
+ * The value of the macro JCOBS_MAX_OVERHEAD is JCOBS_MAX_LENGTH(message_len) minus message_len. This macro also
+ * evaluates its argument more than once, and can't be used in #if. */
 #define JCOBS_MAX_OVERHEAD(message_len) (JCOBS_MAX_LENGTH(message_len) - sizeof(char) * (message_len))
 JCOBS_API jcobs_answer jcobs_encode_in_place(void *buffer, size_t buffer_size, size_t message_len)
     JCOBS_CHANGES(1, 2) JCOBS_CHECKED;
@@ -338,7 +347,8 @@ JCOBS_API jcobs_answer jcobs_decode_in_place_with_sentinel(void *buffer, size_t 
 JCOBS_API unsigned int jcobs_frame_kind(const void *bytes, size_t len) JCOBS_READS(1, 2) JCOBS_CHECKED;
 /* returns: a value of the enum jcobs_kind */
 
-/* Resets the decoder to the initial state, from any state. */
+/* Resets the decoder to the initial state, from any state. If a frame was open, the bytes of this frame that arrive
+ * later are taken for a new frame. */
 JCOBS_API void jcobs_decoder_reset(jcobs_decoder *decoder) JCOBS_STATE;
 
 /* Decodes the next bytes of a stream in which a zero ends each frame. The call processes the bytes up to and including
@@ -408,8 +418,8 @@ JCOBS_API jcobs_answer jcobs_encoder_finish(jcobs_encoder *encoder, void *buffer
     JCOBS_WRITES(2, 3) JCOBS_CHECKED;
 /* returns:
  * - OK: consumed is 0, and length is the length of the frame;
- * - TOO_SMALL, only if buffer_size is 0, or if the pushes were passed another buffer: consumed and length are 0, and
- *   the state and the buffer are as they were. */
+ * - TOO_SMALL, if and only if the frame doesn't fit: consumed and length are 0, and the state and the buffer are as
+ *   they were. If buffer_size is the same as in the pushes, this status is returned only if buffer_size is 0. */
 
 /* Ends the message like jcobs_encoder_finish, and also writes a zero after the frame. The buffer needs room for the
  * frame and one more byte. */

@@ -45,6 +45,10 @@ pub struct MessageCodec {
 impl MessageCodec {
     /// Makes a codec that can receive messages of up to `max_len` bytes. `new` allocates a buffer of `max_len` bytes.
     /// The messages that the codec sends may be longer.
+    ///
+    /// # Panics
+    ///
+    /// Panics if `max_len` is greater than `isize::MAX`.
     #[must_use]
     pub fn new(max_len: usize) -> Self {
         Self {

@@ -129,7 +129,8 @@ pub fn decode(source: &[u8], dest: &mut [u8]) -> Result<DecodeReport, DecodeErro
 ///
 /// - [`DecodeError::EmptyFrame`]: `buff` is empty.
 /// - [`DecodeError::InvalidFrame`]: the frame breaks off inside a block. Then `buff` begins with the output of the
-///   blocks before the broken block, and `decoded_bytes` is the length of this output.
+///   blocks before the broken block, and `decoded_bytes` is the length of this output. If the last of these blocks
+///   isn't full, the output includes the zero after this block.
 #[inline]
 pub fn decode_in_place(buff: &mut [u8]) -> Result<usize, DecodeError> {
     Ok(decode_in_place_report(buff)?.frame_size())
@@ -171,9 +172,11 @@ pub fn decode_in_place_report(buf: &mut [u8]) -> Result<DecodeReport, DecodeErro
 ///
 /// - [`DecodeError::EmptyFrame`]: `source` is empty.
 /// - [`DecodeError::InvalidFrame`]: the frame breaks off inside a block. Then `dest` begins with the output of the
-///   blocks before the broken block, and `decoded_bytes` is the length of this output.
+///   blocks before the broken block, and `decoded_bytes` is the length of this output. If the last of these blocks
+///   isn't full, the output includes the zero after this block.
 /// - [`DecodeError::TargetBufTooSmall`]: the message is longer than `dest`; or the frame breaks off, and the output of
-///   its whole blocks is longer than `dest`. Then `dest` holds the first bytes of this message or of this output.
+///   the blocks before the broken block, including this zero, is longer than `dest`. Then `dest` holds the first bytes
+///   of this message or of this output.
 #[inline]
 pub fn decode_with_sentinel(
     source: &[u8],

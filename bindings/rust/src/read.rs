@@ -30,9 +30,9 @@ use crate::dec::{DecodeError, PieceEnd, UnbufferedDecoder};
 ///
 /// # Ports with a timeout, and ports that don't block
 ///
-/// If the port returns an error, the reader returns this error unchanged, and no byte is lost. If a frame has begun,
-/// the reader keeps the bytes of this frame, and the next call continues after these bytes. So a port with a timeout,
-/// or a port that doesn't block, can be read in a loop:
+/// If the port returns an error other than [`ErrorKind::Interrupted`], the reader returns this error unchanged, and no
+/// byte is lost. If a frame has begun, the reader keeps the bytes of this frame, and the next call continues after
+/// these bytes. So a port with a timeout, or a port that doesn't block, can be read in a loop:
 ///
 /// ```
 /// use std::io::{self, BufRead, ErrorKind};
@@ -71,6 +71,10 @@ impl<R: BufRead> MessageReader<R> {
     /// let stdin = std::io::stdin().lock();
     /// let messages = jcobs::MessageReader::new(stdin, 1024);
     /// ```
+    ///
+    /// # Panics
+    ///
+    /// Panics if `max_len` is greater than `isize::MAX`.
     #[must_use]
     pub fn new(inner: R, max_len: usize) -> Self {
         Self {

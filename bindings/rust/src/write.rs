@@ -59,7 +59,8 @@ impl<W: Write> MessageWriter<W> {
     ///
     /// If the last write failed, a part of its frame may have been written. In that case this call writes 256 bytes
     /// before the frame of `message`, so that no decoder decodes the part to a message. The receiver's decoder reports
-    /// the part as one frame that is broken, or that is too long for the decoder's buffer.
+    /// the part as one frame that is broken, or that is too long for the decoder's buffer. The decoder reports such a
+    /// frame even if no byte of the part was written.
     ///
     /// # Errors
     ///
@@ -97,7 +98,8 @@ impl<W> MessageWriter<W> {
     }
 
     /// Returns a mutable reference to the inner writer. If you write bytes directly to the inner writer, these bytes
-    /// come between two frames.
+    /// come between two frames, unless the last [`write_message`](Self::write_message) failed. After such a failure a
+    /// decoder may take the bytes for the rest of the frame that was cut off.
     pub fn get_mut(&mut self) -> &mut W {
         &mut self.inner
     }

@@ -30,15 +30,15 @@
 //
 //     if (sender.push(std::string_view("id: ")) && sender.push(std::string_view(text))) {
 //         const jcobs::view frame = sender.finish_terminated();
-//         transmit(frame.data(), frame.size());
-//     } else {
-//         sender.reset();
+//         if (!frame.empty())
+//             transmit(frame.data(), frame.size());
 //     }
+//     sender.reset();
 //
-// jcobs.h describes the members status, consumed and length of the jcobs_answer that a call returns. A view contains
-// its length, so the preconditions of jcobs.h about lengths don't apply here. The other preconditions of jcobs.h do:
-// for example, the input and the buffer of a call must not overlap, and nothing else may change them while the call
-// runs.
+// jcobs.h describes the members status, consumed and length of the jcobs_answer that a call returns. The preconditions
+// of jcobs.h apply here too: for example, the input and the buffer of a call must not overlap, and nothing else may
+// change them while the call runs. A view that is made from a container has the right length. If you make a view from a
+// pointer and a length, the pointer must be valid for that many bytes.
 #ifndef JCOBS_HPP
 #define JCOBS_HPP
 
@@ -96,10 +96,10 @@ struct is_temporary<Range, std::enable_if_t<!std::is_lvalue_reference_v<Range> &
 } // namespace detail
 
 // A pointer to bytes and the number of bytes, like std::span in C++20. A view can be made from any container or view
-// whose elements are bytes (unsigned char, char or std::byte). For an array of char, which may end with a '\0', pass a
-// pointer and a length. A view for reading can be made from a temporary object, and is valid as long as that object
-// exists. A view for writing can't be made from a temporary object that owns its bytes, because the written bytes would
-// be destroyed with the object.
+// that stores its elements in one block of memory, if the elements are bytes (unsigned char, char or std::byte). For an
+// array of char, which may end with a '\0', pass a pointer and a length. A view for reading can be made from a
+// temporary object, and is valid as long as that object exists. A view for writing can't be made from a temporary
+// object that owns its bytes, because the written bytes would be destroyed with the object.
 template <class Byte> class JCOBS_POINTER basic_view
 {
     using anything = std::conditional_t<std::is_const_v<Byte>, const void, void>;
@@ -205,7 +205,8 @@ constexpr std::size_t max_overhead(std::size_t message_len) noexcept
 }
 
 // decode_in_place decodes the frame at the front of a buffer, and writes the message to the front of the same buffer.
-// The frame was encoded with the sentinel 0 or with the given sentinel.
+// The frame was encoded with the sentinel 0 or with the given sentinel. With a sentinel other than 0, the call also
+// changes the bytes between the end of the message and the end of the frame.
 [[nodiscard]] inline jcobs_answer decode_in_place(buffer bytes) noexcept
 {
     return jcobs_decode_in_place(bytes.data(), bytes.size());
@@ -223,8 +224,9 @@ constexpr std::size_t max_overhead(std::size_t message_len) noexcept
 }
 
 // Decodes a stream of frames, and writes each message to the front of a buffer. The sentinel follows each frame. The
-// stream may be passed in chunks of any size. The buffer must outlive the receiver. A receiver can be moved, but not
-// while its push runs a callback. A receiver that was moved from is idle, and has no buffer.
+// stream may be passed in chunks of any size. The buffer must outlive the receiver. Don't change the contents of the
+// buffer while a frame is open. A receiver can be moved, but not while its push runs a callback. A receiver that was
+// moved from is idle, and has no buffer.
 class receiver
 {
   public:
@@ -298,7 +300,8 @@ class receiver
         return jcobs_decoder_is_idle(&decoder_) == 1;
     }
 
-    // Discards the open frame.
+    // Makes the receiver idle. If a frame was open, the bytes of this frame that are pushed later are taken for a new
+    // frame.
     void reset() noexcept
     {
         jcobs_decoder_reset(&decoder_);
@@ -328,7 +331,8 @@ class receiver
 };
 
 // Encodes messages that come in chunks, one message after another, and writes each frame to the front of a buffer. The
-// buffer must outlive the sender. A sender can be moved. A sender that was moved from has no message and no buffer.
+// buffer must outlive the sender. From the first push or feed of a message until the message is finished, don't change
+// the contents of the buffer. A sender can be moved. A sender that was moved from has no message and no buffer.
 class sender
 {
   public:

@@ -5,19 +5,22 @@
  * the decoder, and handles each command when its frame ends:
  *
  *     'e' bytes..   echo: sends the bytes back
- *     'a' bytes..   add: adds the bytes up, and sends the sum in two bytes
+ *     'a' bytes..   add: adds the bytes up, and sends the sum in two bytes, the high byte first
  *     's'           statistics: sends how many frames were decoded, broken, and too long, and how often the ring was
  *                   full. Each count is sent in one byte, and continues with 0 after 255
  *
- * A frame that is broken or too long is counted, and never affects another frame. If the ring is full and bytes of a
- * frame are lost, the frame is dropped. */
-#include <jcobs.h>
-
+ * Each reply begins with the letter of its command. A frame that is broken or too long is counted, and never affects
+ * another frame. If the ring is full and bytes are lost, the receiver drops the bytes up to and including the next zero
+ * that arrives. So it drops a frame that lost bytes. If the zero at the end of this frame was lost too, the receiver
+ * also drops the next frame. */
 #include "board.h"
 
-#define MAX_COMMAND 64 /* the greatest number of bytes in a command */
+/* THE RECEIVER: copy the code from here down to the line of dashes. Your program defines handle, complain and
+ * uart_send. */
 
-/* THE RECEIVER: copy the code from here down to the line of dashes. */
+#include <jcobs.h>
+
+#define MAX_COMMAND 64 /* the greatest number of bytes in a command */
 
 static volatile unsigned char ring[256]; /* indices of 8 bits wrap around at its length; one byte stays unused */
 static volatile unsigned char ring_head; /* the interrupt handler writes here */

@@ -137,7 +137,8 @@ macro_rules! decoder_methods {
 macro_rules! decoder_reset {
     () => {
         /// Resets the decoder to its initial state, in which no frame has begun. The buffer and
-        /// [`parsed_size`](Self::parsed_size) stay as they are.
+        /// [`parsed_size`](Self::parsed_size) stay as they are. If a frame had begun, the bytes of this frame that
+        /// arrive later are taken for a new frame.
         #[inline]
         pub fn reset(&mut self) {
             self.progress.decoder.reset();
@@ -275,6 +276,10 @@ pub struct CobsDecoderOwned {
 #[cfg(feature = "alloc")]
 impl CobsDecoderOwned {
     /// Makes a decoder with a buffer of `dest_buf_size` zeros.
+    ///
+    /// # Panics
+    ///
+    /// Panics if `dest_buf_size` is greater than `isize::MAX`.
     #[must_use]
     pub fn new(dest_buf_size: usize) -> Self {
         Self {
