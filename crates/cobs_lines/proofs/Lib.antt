@@ -1,2 +1,2 @@
 pub mod MemoryLemmas
-pub mod LineLemmas
+pub mod DigitLemmas

@@ -1,9 +1,9 @@
-//! Code that the programs `cobs_tool` and `cobs_watch` share. It writes the lines that they print for the pieces of a
-//! stream, and provides a source whose bytes are in memory.
+//! Parts of the programs `cobs_tool` and `cobs_watch`: hexadecimal digits, and a source whose bytes are in memory. The
+//! definition `outcome_line` says which line a program prints for a piece of a stream.
 #![tactic(auto)]
 
-mod lines;
+mod digits;
 mod memory;
 
-pub use lines::{fill_digits, write_broken, write_digits, write_message, write_too_long};
+pub use digits::{fill_digits, write_digits};
 pub use memory::InMemory;

@@ -1,7 +1,7 @@
 -- If `put_message` succeeded, the composed text is the message in its style (`of_ok`). Without colour, number and time,
 -- this is the text of the piece in the view (`bare-view`). `done` says that `compose` returned true.
 use Rattle.std.proofs.Common.{sym, ◌∙◌, rules}
-use Rattle.cobs_lines.proofs.LineLemmas.{of_ok}
+use Rattle.cobs_lines.proofs.DigitLemmas.{of_ok}
 use Rattle.cobs_live.specs.Composed.{contents_of}
 use Rattle.cobs_live.specs.Seen.{seen_in}
 use Rattle.cobs_live.proofs.ComposedLemmas.{bare-view}

@@ -1,4 +1,4 @@
--- Lemmas on the digits of a line, which `write_digits` writes in chunks: the digits of two parts are the digits of all
+-- Lemmas on the digits of bytes, which `write_digits` writes in chunks: the digits of two parts are the digits of all
 -- bytes (`encode_with-append`), and no bytes have no digits (`encode_with-nil`). `of_ok` is about the result of any
 -- call.
 use Rattle.std.proofs.Common.{◌≡◌, ℕ, List, [], ◌∷◌, ◌++◌, Result, Ok, Err, IsOk, OnOk, slice_index, ◌/◌, ◌%◌, refl, ap}

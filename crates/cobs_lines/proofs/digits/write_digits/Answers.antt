@@ -7,8 +7,8 @@ use Rattle.std.proofs.KnownBytes.{Appends-nil, Appends-trans}
 use Rattle.std.proofs.Math.Seq.{take-add}
 use Rattle.hex.specs.Hex.{encode_lower, lower_digits}
 use Rattle.hex.proofs.HexLemmas.{length-encode_with}
-use Rattle.cobs_lines.proofs.LineLemmas.{encode_with-append, encode_with-nil}
-use Rattle.cobs_lines.proofs.lines.write_digits.Goals as goal
+use Rattle.cobs_lines.proofs.DigitLemmas.{encode_with-append, encode_with-nil}
+use Rattle.cobs_lines.proofs.digits.write_digits.Goals as goal
 
 -- before the first chunk, no byte's digits are written
 pub by_chunk-init : goal.by_chunk-init

@@ -1,9 +1,7 @@
-//! Writes the line for a piece of a stream to any writer.
-ghost use Rattle.std.specs.Prelude.{◌≡◌, ◌<◌, ◌*◌, ◌++◌, OnOk, length, slice_index};
+//! Writes bytes as hexadecimal digits to a buffer or to any writer.
+ghost use Rattle.std.specs.Prelude.{◌≡◌, ◌<◌, ◌*◌, OnOk, length, slice_index};
 ghost use Rattle.std.specs.Io.KnownBytes.{Appends};
 ghost use Rattle.hex.specs.Hex.{encode_lower, lower_digits};
-ghost use Rattle.cobs.specs.Stream.{Broken, Message, TooLong};
-ghost use Rattle.cobs_lines.specs.Lines.{outcome_line};
 
 use std::io::{self, Write};
 
@@ -16,24 +14,6 @@ const MANY: usize = 8;
 
 /// The hexadecimal digits.
 const DIGITS: [u8; 16] = *b"0123456789abcdef";
-
-/// Writes the line `message N HEX` and a newline for a message of N bytes. HEX stands for the message's bytes as
-/// lower-case hexadecimal digits. For the empty message the line is `message 0`. Nothing is allocated.
-///
-/// # Errors
-/// Returns the error of a write that failed. Part of the line may have been written.
-pub fn write_message<W: Write>(output: &mut W, message: &[u8]) -> io::Result<()>
-    ensures written { OnOk result (Appends (W.contents output.old) (W.contents output.new)
-        (outcome_line (Message message.now))) }
-{
-    let len = message.len();
-    write!(output, "message {len}")?;
-    if len > 0 {
-        output.write_all(b" ")?;
-        write_digits(output, message)?;
-    }
-    output.write_all(b"\n")
-}
 
 /// Writes the bytes as lower-case hexadecimal digits. Nothing is allocated.
 ///
@@ -106,26 +86,4 @@ fn digit(number: u8) -> u8
     } else {
         b'a' - 10 + number
     }
-}
-
-/// Writes the line `broken N` for a piece that breaks off inside a block and decodes to N bytes.
-///
-/// # Errors
-/// Returns the error of a write that failed. Part of the line may have been written.
-pub fn write_broken<W: Write>(output: &mut W, count: usize) -> io::Result<()>
-    ensures written { OnOk result (Appends (W.contents output.old) (W.contents output.new)
-        (outcome_line (Broken count))) }
-{
-    writeln!(output, "broken {count}")
-}
-
-/// Writes the line `too long` for a piece that decodes to more bytes than the buffer holds.
-///
-/// # Errors
-/// Returns the error of a write that failed. Part of the line may have been written.
-pub fn write_too_long<W: Write>(output: &mut W) -> io::Result<()>
-    ensures written { OnOk result (Appends (W.contents output.old) (W.contents output.new)
-        (outcome_line TooLong)) }
-{
-    output.write_all(b"too long\n")
 }

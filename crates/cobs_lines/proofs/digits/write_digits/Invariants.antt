@@ -3,7 +3,7 @@
 use Rattle.std.proofs.Common.{◌≡◌, ◌≤◌, ◌-◌, length, take}
 use Rattle.std.specs.Io.KnownBytes.{Appends}
 use Rattle.hex.specs.Hex.{encode_lower}
-use Rattle.cobs_lines.proofs.lines.write_digits.Given as goal
+use Rattle.cobs_lines.proofs.digits.write_digits.Given as goal
 
 abbrev pub invariant-by_chunk : goal.invariant-by_chunk
 invariant-by_chunk g l = record {

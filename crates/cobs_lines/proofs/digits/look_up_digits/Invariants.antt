@@ -2,7 +2,7 @@
 -- digits of all bytes (`filled`).
 use Rattle.std.proofs.Common.{◌≡◌, ◌*◌, ◌++◌, length, take, drop}
 use Rattle.hex.specs.Hex.{encode_with, lower_digits}
-use Rattle.cobs_lines.proofs.lines.look_up_digits.Given as goal
+use Rattle.cobs_lines.proofs.digits.look_up_digits.Given as goal
 
 abbrev pub invariant-by_byte : goal.invariant-by_byte
 invariant-by_byte l = record {
