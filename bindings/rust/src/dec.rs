@@ -175,8 +175,8 @@ pub fn decode_in_place_report(buf: &mut [u8]) -> Result<DecodeReport, DecodeErro
 ///   blocks before the broken block, and `decoded_bytes` is the length of this output. If the last of these blocks
 ///   isn't full, the output includes the zero after this block.
 /// - [`DecodeError::TargetBufTooSmall`]: the message is longer than `dest`; or the frame breaks off, and the output of
-///   the blocks before the broken block, including this zero, is longer than `dest`. Then `dest` holds the first bytes
-///   of this message or of this output.
+///   the blocks before the broken block (with the zero after them, if there is one) is longer than `dest`. Then `dest`
+///   holds the first bytes of this message or of this output.
 #[inline]
 pub fn decode_with_sentinel(
     source: &[u8],

@@ -50,8 +50,8 @@ pub struct Frames<'a> {
 
 impl<'a> Frames<'a> {
     /// Returns the rest of the stream. The rest begins after the zero that ends the last frame that `next` returned.
-    /// Before the first frame, the rest is the whole stream. After `next` has returned `None`, the rest is the bytes
-    /// after the last zero of the stream.
+    /// Before the first call of `next`, the rest is the whole stream. After `next` has returned `None`, the rest is the
+    /// bytes after the last zero of the stream.
     #[inline]
     #[must_use]
     pub const fn remainder(&self) -> &'a [u8] {

@@ -60,7 +60,7 @@ impl<W: Write> MessageWriter<W> {
     /// If the last write failed, a part of its frame may have been written. In that case this call writes 256 bytes
     /// before the frame of `message`, so that no decoder decodes the part to a message. The receiver's decoder reports
     /// the part as one frame that is broken, or that is too long for the decoder's buffer. The decoder reports such a
-    /// frame even if no byte of the part was written.
+    /// frame even if the last write wrote no byte.
     ///
     /// # Errors
     ///

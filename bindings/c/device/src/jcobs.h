@@ -218,9 +218,9 @@ typedef struct jcobs_encoder {
 /* With these attributes GCC and Clang check that the result of a call is used, and that a pointer to a state isn't
  * NULL. GCC also checks that a pointer that is passed with a length points to at least that many bytes. The macros'
  * parameters `pointer` and `length` are positions in the call's list of arguments. Two of the calls that finish a
- * message, those with a sentinel, also read the pushed bytes from the buffer. But all calls that finish a message are
- * marked as calls that only write to the buffer. Otherwise, if no bytes were pushed, GCC would warn that nothing has
- * been written to the buffer. */
+ * message also read the pushed bytes from the buffer: the two calls whose names end in _with_sentinel. But all calls
+ * that finish a message are marked as calls that only write to the buffer. Otherwise, if no bytes were pushed, GCC
+ * would warn that nothing has been written to the buffer. */
 #ifdef __GNUC__
 #define JCOBS_CHECKED __attribute__((warn_unused_result))
 #define JCOBS_STATE __attribute__((nonnull(1)))
