@@ -5,8 +5,9 @@
 //     const frame = encode(Uint8Array.of(10, 11, 0, 12));            // 3 10 11 2 12
 //     const frames = port.readable.pipeThrough(new FrameDecoderStream({ maxLength: 4096 }));
 //
-// This file copies bytes into the module's memory, and copies results out of the module's memory. Only the module decides which
-// bytes a frame has, and which messages a stream has.
+// This file copies bytes into the module's memory, and copies results out of the module's memory. With `skipFirst`, this file finds
+// the sentinel after which decoding begins. Apart from that, only the module decides which bytes a frame has, and which messages a
+// stream has.
 import { BROKEN, CHUNK_SIZE, CobsError, KINDS, NEAR, OK, STATE_SIZE, TOO_SMALL, bytesOf, loaded, machineFor } from "./machine.js";
 
 export { CobsError, isSupported, load, loadSync } from "./machine.js";
@@ -49,8 +50,8 @@ export function maxEncodedLength(length) {
 
 /**
  * Returns a length that is enough for the frame of a message of `length` bytes, and for a sentinel after the frame. A frame is at
- * least one byte longer than its message, and each 254 bytes of the message can add one more byte. The returned length is longer
- * than necessary: it has one more byte for each 128 bytes of the message.
+ * least one byte longer than its message, and each 254 bytes of the message can add one more byte. The returned length can be
+ * longer than necessary: it has one more byte for each 128 bytes of the message.
  */
 const roomFor = (length) => length + Math.floor(length / 128) + 2;
 
@@ -100,7 +101,7 @@ export function decode(frame, options) {
 
 /**
  * Returns "canonical" if the bytes are a frame that `encode` returns, "longer" if they are such a frame followed by a needless
- * block, which has only its code, 01, and "notAFrame" if they aren't a frame.
+ * block, which has only its code (01 for the sentinel 0), and "notAFrame" if they aren't a frame.
  */
 export function frameKind(frame, options) {
   const bytes = bytesOf(frame);
@@ -160,7 +161,7 @@ export class FrameDecoder {
     this.#decoder = this.#held.arena.machine.decoder(this.#held.state, this.#held.buffer, maxLength);
   }
 
-  /** Whether a frame has begun but no sentinel has ended it yet. */
+  /** Whether a frame has begun but no sentinel has ended it yet. The bytes that `skipFirst` skips begin no frame. */
   get unfinished() {
     return this.#held.isOpen ? !this.#decoder.isIdle() : this.#wasUnfinished;
   }
@@ -245,10 +246,14 @@ export class FrameDecoder {
  */
 export function frames(bytes, options) {
   const view = bytesOf(bytes);
-  return outcomesOf(view, new FrameDecoder(optionsOf(options, { ...STREAM, maxLength: view.length })));
+  const own = optionsOf(options, { ...STREAM, maxLength: view.length });
+  loaded();
+  return outcomesOf(view, own);
 }
 
-function* outcomesOf(bytes, decoder) {
+/** Makes its decoder only when the first outcome is wanted, because `return` before that doesn't run `finally`. */
+function* outcomesOf(bytes, options) {
+  const decoder = new FrameDecoder(options);
   try {
     for (let at = 0; at < bytes.length; at += CHUNK_SIZE) {
       const found = [];

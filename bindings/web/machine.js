@@ -172,7 +172,11 @@ class Machine {
   }
 }
 
-/** A small module with a function that copies bytes within its memory (memory.copy). No feature of WebAssembly that cobs.wasm uses is newer than this copying. */
+/**
+ * A small module with a function that copies bytes within its memory (memory.copy). In Firefox and Safari, no feature of WebAssembly
+ * that cobs.wasm uses is newer than this copying. Chrome had this copying before it could pass 64-bit numbers from and to JavaScript
+ * (version 85). But older versions of Chrome can't read this file, because of `??=`.
+ */
 const PROBE = Uint8Array.of(
   ...[0, 0x61, 0x73, 0x6d, 1, 0, 0, 0, 1, 4, 1, 0x60, 0, 0, 3, 2, 1, 0, 5, 3, 1, 0, 1],
   ...[10, 14, 1, 12, 0, 0x41, 0, 0x41, 0, 0x41, 0, 0xfc, 10, 0, 0, 0x0b],
@@ -183,7 +187,7 @@ function obstacle() {
   const hasAll = typeof WebAssembly === "object" && typeof BigInt64Array === "function" && WebAssembly.validate(PROBE);
   if (!hasAll) return "this engine lacks the WebAssembly that cobs.wasm needs, which browsers have since 2021 and Node since 16";
   try {
-    new WebAssembly.Module(PROBE);
+    new WebAssembly.Instance(new WebAssembly.Module(PROBE.subarray(0, 8)), {}); // of an empty module; WebKit forbids only the instance
     return "";
   } catch {
     return "a content security policy forbids WebAssembly: its script-src needs 'wasm-unsafe-eval'";
@@ -198,19 +202,20 @@ let shared;
 let loading;
 
 /**
- * Loads the module from the file next to this one, or from a URL, a Response, the file's bytes or a compiled module. Every call
- * except `isSupported` needs the module. Once the module is loaded, or is being loaded, a further call changes nothing.
+ * Loads the module from the file next to this one, or from a URL, a Response, the file's bytes or a compiled module. A relative URL
+ * is relative to this file; in dist/ it is relative to the page. Every call except `isSupported` needs the module. Once the module is
+ * loaded, or is being loaded, a further call changes nothing.
  */
 export function load(source) {
   // moduleAddress() isn't the parameter's default value: in dist/ it decodes the whole module, so it should be called only once
   loading ??= loadFrom(source === undefined ? moduleAddress() : source).catch((error) => {
-    loading = undefined;
+    if (!shared) loading = undefined; // loadSync may have loaded the module since
     throw error;
   });
   return loading;
 }
 
-/** Loads the module synchronously: from the file next to this one (in Node), from bytes, or from a compiled module. */
+/** Loads the module synchronously: from the file next to this one (in Node; dist/ has no such file and needs none), from bytes, or from a compiled module. */
 export function loadSync(source) {
   if (shared) return;
   demandSupport();

@@ -175,7 +175,11 @@ class Machine {
   }
 }
 
-/** A small module with a function that copies bytes within its memory (memory.copy). No feature of WebAssembly that cobs.wasm uses is newer than this copying. */
+/**
+ * A small module with a function that copies bytes within its memory (memory.copy). In Firefox and Safari, no feature of WebAssembly
+ * that cobs.wasm uses is newer than this copying. Chrome had this copying before it could pass 64-bit numbers from and to JavaScript
+ * (version 85). But older versions of Chrome can't read this file, because of `??=`.
+ */
 const PROBE = Uint8Array.of(
   ...[0, 0x61, 0x73, 0x6d, 1, 0, 0, 0, 1, 4, 1, 0x60, 0, 0, 3, 2, 1, 0, 5, 3, 1, 0, 1],
   ...[10, 14, 1, 12, 0, 0x41, 0, 0x41, 0, 0x41, 0, 0xfc, 10, 0, 0, 0x0b],
@@ -186,7 +190,7 @@ function obstacle() {
   const hasAll = typeof WebAssembly === "object" && typeof BigInt64Array === "function" && WebAssembly.validate(PROBE);
   if (!hasAll) return "this engine lacks the WebAssembly that cobs.wasm needs, which browsers have since 2021 and Node since 16";
   try {
-    new WebAssembly.Module(PROBE);
+    new WebAssembly.Instance(new WebAssembly.Module(PROBE.subarray(0, 8)), {}); // of an empty module; WebKit forbids only the instance
     return "";
   } catch {
     return "a content security policy forbids WebAssembly: its script-src needs 'wasm-unsafe-eval'";
@@ -201,19 +205,20 @@ let shared;
 let loading;
 
 /**
- * Loads the module from the file next to this one, or from a URL, a Response, the file's bytes or a compiled module. Every call
- * except `isSupported` needs the module. Once the module is loaded, or is being loaded, a further call changes nothing.
+ * Loads the module from the file next to this one, or from a URL, a Response, the file's bytes or a compiled module. A relative URL
+ * is relative to this file; in dist/ it is relative to the page. Every call except `isSupported` needs the module. Once the module is
+ * loaded, or is being loaded, a further call changes nothing.
  */
 function load(source) {
   // moduleAddress() isn't the parameter's default value: in dist/ it decodes the whole module, so it should be called only once
   loading ??= loadFrom(source === undefined ? moduleAddress() : source).catch((error) => {
-    loading = undefined;
+    if (!shared) loading = undefined; // loadSync may have loaded the module since
     throw error;
   });
   return loading;
 }
 
-/** Loads the module synchronously: from the file next to this one (in Node), from bytes, or from a compiled module. */
+/** Loads the module synchronously: from the file next to this one (in Node; dist/ has no such file and needs none), from bytes, or from a compiled module. */
 function loadSync(source) {
   if (shared) return;
   demandSupport();
@@ -380,8 +385,9 @@ function isGone(view) {
 //     const frame = encode(Uint8Array.of(10, 11, 0, 12));            // 3 10 11 2 12
 //     const frames = port.readable.pipeThrough(new FrameDecoderStream({ maxLength: 4096 }));
 //
-// This file copies bytes into the module's memory, and copies results out of the module's memory. Only the module decides which
-// bytes a frame has, and which messages a stream has.
+// This file copies bytes into the module's memory, and copies results out of the module's memory. With `skipFirst`, this file finds
+// the sentinel after which decoding begins. Apart from that, only the module decides which bytes a frame has, and which messages a
+// stream has.
 
 
 /**
@@ -422,8 +428,8 @@ function maxEncodedLength(length) {
 
 /**
  * Returns a length that is enough for the frame of a message of `length` bytes, and for a sentinel after the frame. A frame is at
- * least one byte longer than its message, and each 254 bytes of the message can add one more byte. The returned length is longer
- * than necessary: it has one more byte for each 128 bytes of the message.
+ * least one byte longer than its message, and each 254 bytes of the message can add one more byte. The returned length can be
+ * longer than necessary: it has one more byte for each 128 bytes of the message.
  */
 const roomFor = (length) => length + Math.floor(length / 128) + 2;
 
@@ -473,7 +479,7 @@ function decode(frame, options) {
 
 /**
  * Returns "canonical" if the bytes are a frame that `encode` returns, "longer" if they are such a frame followed by a needless
- * block, which has only its code, 01, and "notAFrame" if they aren't a frame.
+ * block, which has only its code (01 for the sentinel 0), and "notAFrame" if they aren't a frame.
  */
 function frameKind(frame, options) {
   const bytes = bytesOf(frame);
@@ -533,7 +539,7 @@ class FrameDecoder {
     this.#decoder = this.#held.arena.machine.decoder(this.#held.state, this.#held.buffer, maxLength);
   }
 
-  /** Whether a frame has begun but no sentinel has ended it yet. */
+  /** Whether a frame has begun but no sentinel has ended it yet. The bytes that `skipFirst` skips begin no frame. */
   get unfinished() {
     return this.#held.isOpen ? !this.#decoder.isIdle() : this.#wasUnfinished;
   }
@@ -618,10 +624,14 @@ class FrameDecoder {
  */
 function frames(bytes, options) {
   const view = bytesOf(bytes);
-  return outcomesOf(view, new FrameDecoder(optionsOf(options, { ...STREAM, maxLength: view.length })));
+  const own = optionsOf(options, { ...STREAM, maxLength: view.length });
+  loaded();
+  return outcomesOf(view, own);
 }
 
-function* outcomesOf(bytes, decoder) {
+/** Makes its decoder only when the first outcome is wanted, because `return` before that doesn't run `finally`. */
+function* outcomesOf(bytes, options) {
+  const decoder = new FrameDecoder(options);
   try {
     for (let at = 0; at < bytes.length; at += CHUNK_SIZE) {
       const found = [];

@@ -2,8 +2,10 @@
  * Consistent Overhead Byte Stuffing (COBS), implemented by the proved code in cobs.wasm.
  *
  * A call throws:
- * - a TypeError if an argument that must be `Bytes` has another type, or if you pass an option that the call doesn't have;
- * - a RangeError if a `sentinel`, a `maxLength` or a length isn't an allowed number;
+ * - a TypeError if an argument that must be `Bytes` has another type or a detached buffer, if the options aren't an object, or if
+ *   you pass an option that the call doesn't have;
+ * - a RangeError if a `sentinel`, a `maxLength` or a length isn't an allowed number, or if the call needs more memory than the
+ *   engine gives. All open decoders and encoders together can have at most 4 GiB;
  * - an Error if the module isn't loaded.
  */
 
@@ -29,7 +31,11 @@ declare global {
 /** Bytes that are passed to a call: an ArrayBuffer, a SharedArrayBuffer, or any view of one of these. */
 export type Bytes = ArrayBuffer | SharedArrayBuffer | ArrayBufferView;
 
-/** A source from which `load` can read the module: an address, a response, the bytes of cobs.wasm, or the compiled module. */
+/**
+ * A source from which `load` can read the module: an address, a response, the bytes of cobs.wasm, or the compiled module. A
+ * relative address is relative to the page; in a worker and in Node, an address must be absolute. (For the file jcobs.js of the
+ * repository, a relative address is relative to that file.)
+ */
 export type Source = string | URL | Response | PromiseLike<Response> | Bytes | WebAssembly.Module;
 
 export interface SentinelOptions {
@@ -58,13 +64,19 @@ export interface DecoderOptions extends PieceOptions {
   skipFirst?: boolean;
 }
 
-/** The outcome of a piece of a stream. A piece is the bytes up to a sentinel. */
+/**
+ * The outcome of a piece of a stream. A piece is the bytes between two neighbouring sentinels, or before the first sentinel. A
+ * piece has at least one byte. So a sentinel at the start, or after another sentinel, has no outcome.
+ */
 export type Outcome =
   /** The piece is a frame, and `message` is its message. */
   | { message: Uint8Array; broken?: undefined; tooLong?: undefined }
-  /** The piece breaks off inside a block. `broken` is the number of bytes that the piece decodes to before it breaks off. */
+  /**
+   * The piece breaks off inside a block. `broken` is the number of bytes that the piece decodes to before it breaks off, which is
+   * at most `maxLength`.
+   */
   | { broken: number; message?: undefined; tooLong?: undefined }
-  /** The piece decodes to more than `maxLength` bytes. */
+  /** The piece decodes to more than `maxLength` bytes, whether or not it then breaks off. */
   | { tooLong: true; message?: undefined; broken?: undefined };
 
 /**
@@ -85,25 +97,30 @@ export function isSupported(): boolean;
 
 /**
  * Loads the module. Every call except `isSupported` needs the module. Without an argument, `load` loads the module that comes
- * with this file. Once the module is loaded, or is being loaded, a further call of `load` changes nothing and returns the same
- * promise. If the module can't be loaded, the promise is rejected with a CobsError "unsupported", or with the error that occurred
- * when the source was read, for example an error of `fetch`. After that, `load` can be called again.
+ * with this file. While the module is being loaded, a further call of `load` changes nothing and returns the same promise. Once the
+ * module is loaded, a further call changes nothing and returns a fulfilled promise. If the module can't be loaded, the promise is
+ * rejected with one of the following errors, and `load` can be called again:
+ * - a CobsError "unsupported";
+ * - the error that occurred when the source was read, for example an error of `fetch`;
+ * - a WebAssembly.CompileError if the bytes aren't a WebAssembly module;
+ * - a TypeError if the source has a wrong type, or is a module other than this version's cobs.wasm.
  */
 export function load(source?: Source): Promise<void>;
 
 /**
  * Loads the module synchronously, for a program that can't wait for a promise. Without an argument, `loadSync` loads the module
- * that comes with this file. Once the module is loaded, a further call changes nothing. On a page, outside of a worker, this call
- * needs Chrome 115 or later.
+ * that comes with this file. Once the module is loaded, a further call changes nothing. On a page in Chrome, outside of a worker,
+ * this call needs Chrome 115 or later. In a browser, the file jcobs.js of the repository needs an argument, because a browser can't
+ * read cobs.wasm synchronously.
  *
- * @throws CobsError "unsupported", or the error that occurred when the source was read
+ * @throws CobsError "unsupported", or the errors of `load`
  */
 export function loadSync(source?: Bytes | WebAssembly.Module): void;
 
 /**
  * Returns the length of the longest frame that a message of `length` bytes can have, not counting sentinels.
  *
- * @throws RangeError if `length` isn't an integer, or is negative
+ * @throws RangeError if `length` isn't an integer from 0 to `Number.MAX_SAFE_INTEGER`
  */
 export function maxEncodedLength(length: number): number;
 
@@ -129,7 +146,7 @@ export function decode(frame: Bytes, options?: SentinelOptions): Uint8Array;
 /**
  * Returns one of these words:
  * - "canonical" if the bytes are a frame that `encode` returns;
- * - "longer" if the bytes are such a frame, followed by a needless block that has only its code, 01;
+ * - "longer" if the bytes are such a frame, followed by a needless block that has only its code, which is 01 for the sentinel 0;
  * - "notAFrame" if the bytes aren't a frame.
  *
  * Pass the bytes without the sentinels before and after them.
@@ -138,7 +155,8 @@ export function frameKind(frame: Bytes, options?: SentinelOptions): "canonical" 
 
 /**
  * Returns an iterator over the outcomes of the pieces of `bytes`. The property `end` of an outcome is the index in `bytes` of the
- * byte after the piece's sentinel. Bytes after the last sentinel have no outcome.
+ * byte after the piece's sentinel. Bytes after the last sentinel have no outcome. The iterator reads `bytes` step by step, so don't
+ * change `bytes` before the iterator has ended. It needs `maxLength` bytes of memory until it ends, or until a loop leaves it.
  */
 export function frames(bytes: Bytes, options?: DecoderOptions): IterableIterator<Outcome & { end: number }>;
 
@@ -152,15 +170,25 @@ export class FrameDecoder {
    * change how the next chunk is decoded.
    *
    * @throws Error if the decoder is closed, or if `visit` calls `push`
+   * @throws TypeError if `visit` isn't a function
    */
   push(chunk: Bytes, visit: (outcome: Outcome, end: number) => void): void;
-  /** Whether a frame has begun but no sentinel has ended it yet. */
+  /**
+   * Whether a frame has begun but no sentinel has ended it yet. The bytes that `skipFirst` skips begin no frame. After `close`, the
+   * value stays as it was.
+   */
   get unfinished(): boolean;
   /** How many bytes `skipFirst` has skipped, including the first sentinel. */
   get skipped(): number;
-  /** Frees the decoder's memory. Without this call, garbage collection frees the memory at some later time. */
+  /**
+   * Frees the decoder's memory. Without this call, garbage collection frees the memory at some later time. If `visit` calls
+   * `close`, the memory is freed at the end of `push`. A second call does nothing.
+   */
   close(): void;
-  /** Calls `close`. At the end of a block, a `using` declaration calls this method. */
+  /**
+   * Calls `close`. At the end of a block, a `using` declaration calls this method. The method exists only if the engine had
+   * `Symbol.dispose` when this package was loaded.
+   */
   [Symbol.dispose](): void;
 }
 
@@ -182,27 +210,39 @@ export class FrameEncoder {
    * @throws Error if the encoder is closed
    */
   finish(options?: { terminated?: boolean }): Uint8Array;
-  /** Frees the encoder's memory. Without this call, garbage collection frees the memory at some later time. */
+  /**
+   * Frees the encoder's memory. Without this call, garbage collection frees the memory at some later time. A second call does
+   * nothing.
+   */
   close(): void;
-  /** Calls `close`. At the end of a block, a `using` declaration calls this method. */
+  /**
+   * Calls `close`. At the end of a block, a `using` declaration calls this method. The method exists only if the engine had
+   * `Symbol.dispose` when this package was loaded.
+   */
   [Symbol.dispose](): void;
 }
 
-/** Turns a stream of bytes into a stream of outcomes. Bytes after the last sentinel of the stream have no outcome. */
+/**
+ * Turns a stream of bytes into a stream of outcomes. Bytes after the last sentinel of the stream have no outcome. A chunk that
+ * isn't `Bytes` makes both ends fail with a TypeError.
+ */
 export class FrameDecoderStream {
   constructor(options?: DecoderOptions);
   readonly readable: ReadableStream<Outcome>;
   readonly writable: WritableStream<Bytes>;
   /**
    * Whether a frame has begun but no sentinel has ended it yet. At the end of the stream, the value says whether the last frame
-   * was cut off.
+   * was cut off. The bytes that `skipFirst` skips begin no frame.
    */
   get unfinished(): boolean;
   /** How many bytes `skipFirst` has skipped, including the first sentinel. */
   get skipped(): number;
 }
 
-/** A `TransformStream` that turns messages into frames, each with a sentinel after it. */
+/**
+ * A `TransformStream` that turns messages into frames, each with a sentinel after it. A message that isn't `Bytes` makes both ends
+ * fail with a TypeError.
+ */
 export class FrameEncoderStream {
   constructor(options?: SentinelOptions);
   readonly readable: ReadableStream<Uint8Array>;

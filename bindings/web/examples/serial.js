@@ -4,7 +4,8 @@ await load();
 
 /**
  * Calls `show` with each message that an open serial port receives. Returns an object with `send`, which sends a message, `close`,
- * which closes the port, and `ended`, a promise that is settled when the input of the port ends or fails.
+ * which closes the port, and `ended`, a promise that is settled when the input of the port ends or fails, when `show` throws an
+ * error, or when `close` is called.
  * @param {{ readable: ReadableStream<Uint8Array>, writable: WritableStream<Uint8Array>, close(): Promise<void> }} port
  * @param {(message: Uint8Array) => void} show
  */
@@ -24,11 +25,11 @@ export function talk(port, show) {
   }
 
   return {
-    /** Is fulfilled at the end of the input, and rejected if the input fails. */
+    /** Is fulfilled at the end of the input or by `close`, and rejected if the input fails or `show` throws an error. */
     ended: read(),
     send: (/** @type {Uint8Array} */ message) => writer.write(encode(message, { terminated: true })),
     async close() {
-      await reader.cancel();
+      await reader.cancel().catch(() => {}); // is rejected after a fault of the line
       await piped; // until then the pipe locks the port's stream, and the port can't be closed
       await writer.ready.catch(() => {});
       writer.releaseLock();

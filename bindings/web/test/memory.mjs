@@ -6,6 +6,7 @@ export async function memoryOf(act) {
   let last;
   let count = 0;
   const note = (instance) => {
+    if (!instance.exports.memory) return instance; // isSupported made it
     last = instance;
     count++;
     return instance;

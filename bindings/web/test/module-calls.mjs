@@ -90,9 +90,10 @@ await check("loadSync refuses what needs a promise, and what is no module", asyn
 });
 await check("a page of an engine that makes no long instance at once, as Chrome before 115, loads all the same", async () => {
   const { Instance } = WebAssembly;
-  WebAssembly.Instance = class {
-    constructor() {
-      throw new RangeError("WebAssembly.Instance is disallowed on the main thread, if the buffer size is larger than 4KB");
+  WebAssembly.Instance = class extends Instance {
+    constructor(module, imports) {
+      if (WebAssembly.Module.exports(module).length === 0) super(module, imports);
+      else throw new RangeError("WebAssembly.Instance is disallowed on the main thread, if the buffer size is larger than 4KB");
     }
   };
   try {

@@ -156,6 +156,8 @@ try {
     let fault;
     await again.ended.catch((error) => (fault = error.name));
     equal(fault, "BreakError", "a fault of the line");
+    await again.close();
+    equal(port.opened, null, "the port is closed after the fault");
   });
   if (has("socat")) await check("Node's streams over a pseudo-terminal", () => overTerminal(folder));
   else skip("the pseudo-terminal", "socat is not there: install Debian's socat");
