@@ -81,6 +81,14 @@ await check("loadSync loads before it returns, and load after it changes nothing
   decoder.close();
   equal([seen, both.encode(MESSAGE)], [[MESSAGE], FRAME], "with one decoder from before a load ended");
 }));
+await check("a load that fails after loadSync has loaded the module changes nothing", async () => {
+  const own = await fresh();
+  const failing = own.load(bytes(1, 2, 3));
+  own.loadSync();
+  await throws(() => failing, () => true, "the load of what is no module");
+  await own.load(bytes(1, 2, 3));
+  equal(own.encode(MESSAGE), FRAME, "the frame");
+});
 await check("loadSync refuses what needs a promise, and what is no module", async () => {
   const own = await fresh();
   for (const given of ["cobs.wasm", new URL("https://example.org/cobs.wasm"), new Response(wasm), null]) await throws(() => own.loadSync(given), (error) => error instanceof TypeError && /load fetches/.test(error.message), `${given}`);

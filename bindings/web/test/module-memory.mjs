@@ -41,6 +41,13 @@ await check("a stream that isn't read to its end gives its memory back at once",
   }
   holds(pages() <= before + 3 * 17, `memory had ${before} pages and has ${pages()}`);
 }));
+await check("an iterator over frames that is returned before its first outcome takes no memory", () => memoryOf(async (pages) => {
+  const own = await fresh();
+  await own.load(wasm);
+  const before = pages();
+  for (let i = 0; i < 20; i++) own.frames(new Uint8Array(1 << 20)).return();
+  equal(pages(), before, "pages");
+}));
 if (globalThis.gc) {
   await check("what a closed decoder had is freed once: its next owner keeps it", async () => {
     const own = await fresh();
