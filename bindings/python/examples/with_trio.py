@@ -1,7 +1,7 @@
 """Receives frames from a stream of trio: a socket, a pipe, or a port with trio.lowlevel.FdStream.
 
-The reader keeps the bytes of a frame that has begun, so make one reader for each stream. A cancelled call loses
-nothing:
+The reader keeps the bytes of a frame that has begun, so make one reader for each stream. If `receive` is cancelled,
+nothing is lost:
 
     reader = jcobs.AsyncFrameReader(stream)
     with trio.move_on_after(5):

@@ -12,7 +12,7 @@ import threading
 import pytest
 
 import jcobs
-from jcobs._files import keep
+from jcobs._files import keep, read_ssl
 from test_readers import KINDS, ends, hang_up
 
 MESSAGES = [b"%d\0" % number * (number % 7) + b"%d" % number for number in range(20_000)]
@@ -269,6 +269,29 @@ def test_an_exception_at_any_step_after_lost_bytes_makes_no_other_message():
         assert {outcome for outcome in found if outcome != jcobs.Broken(b"")} <= {jcobs.Message(b"hi")}
         step += 1
     assert found == [jcobs.Broken(b""), jcobs.Message(b"hi")] and step > 20
+
+
+def test_a_loss_in_an_ssl_socket_is_noticed():
+    """`recv` of an SSL socket is written in Python, so an exception may come after `recv` has taken bytes."""
+
+    class Socket:
+        parts = [b"\x04ab", None, b"c\0\x03hi\0", b""]  # None: the bytes `d 00 04 x` are lost
+
+        def gettimeout(self):
+            return None
+
+        def recv(self, size):
+            part = self.parts.pop(0)
+            if part is None:
+                raise Interruption
+            return part
+
+    sock = Socket()
+    reader = jcobs.FrameReader(io.BytesIO())
+    reader._read = lambda file, timeout, kept: read_ssl(sock, timeout, kept)
+    with pytest.raises(Interruption):
+        next(reader)
+    assert list(reader) == [jcobs.Broken(b""), jcobs.Message(b"hi")]
 
 
 @pytest.mark.skipif(not hasattr(signal, "setitimer"), reason="there is no setitimer")

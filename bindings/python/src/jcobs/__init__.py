@@ -12,12 +12,14 @@ b'\\x06hello\\x06world\\x00'
 >>> decoder.feed(b"ld\\x00\\x03hi\\x00")
 [Message(b'hello\\x00world'), Message(b'hi')]
 
-The arguments `data`, `frame` and `chunk` are bytes, or any other contiguous bytes-like object, such as a bytearray, a
-memoryview, an array.array or an mmap. Each function and method raises TypeError for an object that isn't bytes-like,
-and BufferError for an object whose bytes aren't contiguous.
+The arguments `data`, `frame`, `chunk` and `message` are bytes, or any other contiguous bytes-like object, such as a
+bytearray, a memoryview, an array.array or an mmap. Each function and method raises TypeError for an object that isn't
+bytes-like, and BufferError for an object whose bytes aren't contiguous. But `frames` raises TypeError in both cases,
+and `Message`, `Broken` and `TooLong` raise TypeError for every object except bytes.
 
 `sentinel` is an integer from 0 to 255; any other integer raises ValueError. `length` and `max_length` are numbers of
-bytes: a negative number raises ValueError, and a number above `sys.maxsize` raises OverflowError.
+bytes: a negative number raises ValueError, and a number above `sys.maxsize` raises OverflowError. An object that isn't
+an integer raises TypeError. If there isn't enough memory, a call raises MemoryError.
 """
 
 __version__ = "1.0.0"  # the modules below compare this version with the version of the extension

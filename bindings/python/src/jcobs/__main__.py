@@ -43,7 +43,7 @@ def arguments() -> argparse.ArgumentParser:
         metavar="N",
         type=int,
         default=65536,
-        help="the length of the longest message, in bytes (default: %(default)s)",
+        help="the length of the longest message to show, in bytes (default: %(default)s)",
     )
     parser.add_argument("--max-length", dest="length", metavar="N", type=int, help=argparse.SUPPRESS)
     parser.add_argument("command", nargs="?", choices=["show", "send"], default="show", help="(default: %(default)s)")

@@ -52,6 +52,15 @@ class AsyncFrameReader(Frames):
     If `sync` is true, a sentinel is sent before the first frame. So earlier bytes of another sender, or noise on the
     line, don't become part of the first frame.
 
+    A reader is for the tasks of one thread. If two tasks read at the same time, the second call raises the stream's own
+    error, for example RuntimeError for asyncio. If two tasks write at the same time, an asyncio writer sends both
+    frames whole. A stream of trio or anyio sends the first frame, and the second call raises RuntimeError.
+
+    If a signal handler raises an exception during a read, bytes may be lost. The reader doesn't notice this loss, and
+    may return a wrong message. After such an exception, open the stream again, and make a new reader.
+
+    Raises TypeError if `stream` has none of the methods `receive_some`, `receive` and `read`.
+
     >>> import asyncio
     >>> async def show() -> None:
     ...     stream = asyncio.StreamReader()
@@ -158,7 +167,8 @@ class AsyncFrameReader(Frames):
     async def read(self, timeout: Optional[float] = None) -> Optional[Outcome]:
         """Returns the outcome of the next frame, or None if this frame hasn't ended after `timeout` seconds.
 
-        Raises EOFError at the end of the stream.
+        Raises EOFError at the end of the stream, ValueError if `timeout` is negative, and TypeError if `timeout` isn't
+        a number.
         """
         deadline = Deadline(timeout)
         while not self._pending:
@@ -186,9 +196,11 @@ class AsyncFrameReader(Frames):
     async def discard(self, quiet: float = 0.05) -> None:
         """Drops the outcomes that haven't been read, and all bytes that have arrived.
 
-        If these bytes end inside a frame, this call also drops the bytes that follow, until no byte has arrived for
-        `quiet` seconds. If bytes are still arriving after one second, this call stops. If the call stops inside a
-        frame, the next outcome is the outcome of this frame.
+        If these bytes end inside a frame, this call waits for the rest of this frame, and drops it too. The call stops
+        as soon as the frame has ended and no further bytes have arrived, or when no byte has arrived for `quiet`
+        seconds. If the rest of the frame comes after that, it is read as another frame. If bytes are still arriving
+        after one second, this call stops. If this happens inside a frame, the next outcome is the outcome of this
+        frame. `quiet` must not be negative.
         """
         end = time.monotonic() + LONGEST_DISCARD
         while await self._take_within(Deadline(quiet).left() or 0.0 if self.unfinished else 0.0):
@@ -200,7 +212,10 @@ class AsyncFrameReader(Frames):
         self._decoder.reset()
 
     async def write(self, message: ReadableBuffer) -> None:
-        """Sends a message as a frame, and the sentinel after the frame. Raises TypeError if there is no `writer`.
+        """Sends a message as a frame, and the sentinel after the frame.
+
+        For asyncio, raises TypeError if there is no `writer`. For a stream of trio or anyio that can only receive,
+        raises AttributeError if there is no `writer`.
 
         If this call is cancelled or fails, a stream of trio or anyio may have sent a part of the frame. In this case
         the next write first sends bytes that end the cut frame. For the cut frame, the receiver reports at most one
@@ -232,9 +247,11 @@ class AsyncFrameReader(Frames):
     async def request(self, message: ReadableBuffer, timeout: Optional[float], *, discard: bool = False) -> bytes:
         """Sends a message, and returns the reply, which is the next message that is read.
 
-        Raises TimeoutError if no frame has ended after `timeout` seconds, `DecodeError` if the next frame is broken or
-        too long, and EOFError at the end of the stream. If `discard` is true, the bytes that have already arrived, such
-        as a late reply to an earlier request, are dropped before the message is sent.
+        Raises TimeoutError if no frame has ended `timeout` seconds after the message was sent, `DecodeError` if the
+        next frame is broken or too long, and EOFError at the end of the stream. `timeout` may be None; then the call
+        waits without a limit. This call also raises the errors of `read` and `write`. If `discard` is true, this call
+        first calls `discard()`, so that bytes that have already arrived, such as a late reply to an earlier request,
+        aren't mistaken for the reply.
         """
         Deadline(timeout)
         if discard:

@@ -1,8 +1,10 @@
 """Chooses the code to use: the extension `_core` if it can be loaded, otherwise `_plain`, which is written in Python.
 
 If the environment variable JCOBS_BACKEND is "python", `_plain` is used. If it is "prebuilt" or "compiled", and the
-extension can't be loaded, ImportError is raised. If an earlier installation has left an extension of another version,
-that extension isn't used.
+extension can't be loaded, ImportError is raised. With either of these two values, either kind of extension is used. If
+the variable is neither empty nor one of the three names, ImportError is raised. If an earlier installation has left an
+extension of another version, a warning is issued, and `_plain` is used, even if the variable is "prebuilt" or
+"compiled".
 """
 
 from __future__ import annotations

@@ -146,12 +146,12 @@ def keep_some(kept: Kept, port: Any, waiting: int) -> bool:
     return False
 
 
-def read_socket(sock: Any, timeout: Optional[float], kept: Kept) -> bool:
+def read_socket(sock: Any, timeout: Optional[float], kept: Kept, in_python: bool = False) -> bool:
     """Reads the bytes that have arrived at a socket. If no bytes have arrived, waits until some arrive."""
     if timeout is not None and not is_ready(sock, timeout):
         return False
     try:
-        return keep(kept, sock.recv, CHUNK)
+        return keep(kept, sock.recv, CHUNK, in_python)
     except BlockingIOError:
         return False
     except socket.timeout as error:
@@ -172,7 +172,7 @@ def read_ssl(sock: Any, timeout: Optional[float], kept: Kept) -> bool:
     try:
         if timeout is not None:
             sock.settimeout(timeout)
-        return read_socket(sock, None, kept)
+        return read_socket(sock, None, kept, in_python=True)
     except SSLWantReadError:
         return False
     finally:

@@ -62,8 +62,9 @@ def encode_in_place(buffer: WriteableBuffer, length: int, *, sentinel: int = 0) 
     This function calls `encode` with a copy of the message, so it is no faster than `encode`. It is kept only for
     scripts that already use it.
 
-    `buffer` is a contiguous bytes-like object that can be written to. If `buffer` has fewer than `max_length(length)`
-    bytes, the function raises ValueError and leaves `buffer` as it was.
+    `buffer` is a contiguous bytes-like object that can be written to. If it can't be written to, the function raises
+    TypeError. If `buffer` has fewer than `max_length(length)` bytes, the function raises ValueError. If the function
+    raises an error, it leaves `buffer` as it was.
 
     >>> buffer = bytearray(b"\\0hello..")
     >>> jcobs.encode_in_place(buffer, 5)

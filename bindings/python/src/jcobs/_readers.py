@@ -83,7 +83,8 @@ class Frames(Coder):
     def unfinished(self) -> bool:
         """Whether a frame has begun but not ended.
 
-        At the end of a file, the value says whether the last frame was cut off.
+        At the end of a file, the value says whether the last frame was cut off. Only the thread that reads may use this
+        property. If another thread uses it during a read, the property or the read may raise RuntimeError.
         """
         return self._headless or self._decoder.unfinished
 
@@ -159,20 +160,25 @@ class FrameReader(Frames):
 
     `read` returns the outcome of one frame: a `Message`, `Broken` or `TooLong`. `max_length` is the length in bytes of
     the longest message that can be read. Iterating over the reader yields each outcome as soon as its frame ends, until
-    the stream ends or a timeout of the port or socket passes. After a timeout, reading can continue. No byte is lost if
-    the file's own read raises an exception.
+    the stream ends, a timeout of the port or socket passes, or a non-blocking file or socket has no bytes. In the last
+    two cases, reading can continue. No byte is lost if the file's own read raises an OSError.
+
+    Raises TypeError for a text file, and for an object that has none of `in_waiting`, `recv`, `read` and `write`.
 
     A signal handler may raise an exception during a read, as the handler for Ctrl-C does. With the extension on CPython
     3.11 or later, no byte from a socket, a pipe or a file is lost through such an exception. Bytes may be lost in plain
-    Python and on an older CPython. They may also be lost in pyserial, and in the file that a socket's `makefile`
-    returns. If bytes are lost, the reader returns one `Broken` with empty `data` instead of the frames that are damaged
-    by the loss.
+    Python and on an older CPython. They may also be lost in pyserial, in an SSL socket, and in the file that a socket's
+    `makefile` returns. If bytes are lost in these cases, the reader returns one `Broken` with empty `data` instead of
+    the frames that are damaged by the loss. Bytes may also be lost in a gzip file, and in any other object whose `read`
+    or `recv` is written in Python. The reader doesn't notice this loss, and may return a wrong message. After such an
+    exception, open the stream again, and make a new reader.
 
     If `sync` is true, a sentinel is sent before the first frame. So earlier bytes of another sender, or noise on the
     line, don't become part of the first frame.
 
     One thread may read while another thread writes. While a call that reads is running, other calls that read raise
-    RuntimeError. While a call that writes is running, other calls that write raise RuntimeError too.
+    RuntimeError. While a call that writes is running, other calls that write raise RuntimeError too. If `request`
+    raises this error because another call is reading, `request` may have sent its message.
 
     >>> import io
     >>> reader = jcobs.FrameReader(io.BytesIO(b"\\x03hi\\x00\\x06hello\\x00\\x05by"))
@@ -183,10 +189,11 @@ class FrameReader(Frames):
     >>> reader.unfinished
     True
 
-    A reader never waits for further bytes if some have arrived. From a serial port it reads `in_waiting` bytes, or 1
-    byte if none are waiting. For a socket it calls `recv`, for a buffered file `read1`, and for any other object
-    `read`, each with 65536 as the size. Each of these methods must return the bytes that have arrived, or None if no
-    bytes have arrived, or empty bytes at the end of the input.
+    A reader never waits for further bytes if some have arrived. An object with `in_waiting` is a serial port: the
+    reader calls `read` for `in_waiting` bytes, or for 1 byte if none are waiting. Empty bytes from a port mean that its
+    timeout has passed, and a port must not return None. For a socket the reader calls `recv`, for a buffered file
+    `read1`, and for any other object `read`, each with 65536 as the size. Each of these three methods must return the
+    bytes that have arrived, or None if no bytes have arrived, or empty bytes at the end of the input.
     """
 
     def __init__(
@@ -231,7 +238,12 @@ class FrameReader(Frames):
     def read(self, timeout: Optional[float] = None) -> Optional[Outcome]:
         """Returns the outcome of the next frame, or None if this frame hasn't ended after `timeout` seconds.
 
-        Raises EOFError at the end of the stream.
+        If the call returns None, the next call continues where this call stopped. If `timeout` is 0, the call reads at
+        most once, so it takes at most 65536 bytes.
+
+        Raises EOFError at the end of the stream, ValueError if `timeout` is negative, and TypeError if `timeout` isn't
+        a number. With `timeout`, an object that isn't a serial port must have the method `fileno`. Otherwise the call
+        raises TypeError.
 
         Without `timeout`, the call waits as long as the port, socket or file itself waits in a read. In this case the
         call returns None if the timeout of the port or socket has passed, or if a non-blocking file or socket has no
@@ -312,11 +324,14 @@ class FrameReader(Frames):
     def discard(self, quiet: float = 0.05) -> None:
         """Drops the outcomes that haven't been read, and all bytes that have arrived.
 
-        If these bytes end inside a frame, this call also drops the bytes that follow, until no byte has arrived for
-        `quiet` seconds. If bytes are still arriving after one second, this call stops. If the call stops inside a
-        frame, the next outcome is the outcome of this frame.
+        If these bytes end inside a frame, this call waits for the rest of this frame, and drops it too. The call stops
+        as soon as the frame has ended and no further bytes have arrived, or when no byte has arrived for `quiet`
+        seconds. If the rest of the frame comes after that, it is read as another frame. If bytes are still arriving
+        after one second, this call stops. If this happens inside a frame, the next outcome is the outcome of this
+        frame. `quiet` must not be negative.
 
-        A file in memory or on a disk is read to its end.
+        All bytes of a file in memory or on a disk count as bytes that have arrived. Like `read` with `timeout`, this
+        call raises TypeError if the object isn't a serial port and has no `fileno`.
 
         >>> import io
         >>> reader = jcobs.FrameReader(io.BytesIO(b"\\x03hi\\x00\\x06hello\\x00\\x05by"))
@@ -356,10 +371,11 @@ class FrameReader(Frames):
     def request(self, message: ReadableBuffer, timeout: Optional[float], *, discard: bool = False) -> bytes:
         """Sends a message, and returns the reply, which is the next message that is read.
 
-        Raises TimeoutError if no frame has ended after `timeout` seconds, `DecodeError` if the next frame is broken or
-        too long, and EOFError at the end of the stream. After a TimeoutError the reply may still arrive. If `discard`
-        is true, the bytes that have already arrived are dropped before the message is sent, so that they aren't
-        mistaken for the reply.
+        Raises TimeoutError if no frame has ended `timeout` seconds after the message was sent, `DecodeError` if the
+        next frame is broken or too long, and EOFError at the end of the stream. `timeout` may be None, as for `read`.
+        This call also raises the errors of `read` and `write`. After a TimeoutError the reply may still arrive. If
+        `discard` is true, this call first calls `discard()`, so that bytes that have already arrived aren't mistaken
+        for the reply.
 
         A late reply to an earlier request may arrive after this message is sent. Then the late reply is mistaken for
         the reply to this message, because a frame doesn't say which request it replies to. If that can happen, number
@@ -379,7 +395,9 @@ def frames(
 
     The bytes are read and decoded in chunks of up to 65536 bytes, as the outcomes are needed. The iterator is a
     `FrameReader`. Its `messages` method skips frames that are broken or too long. At the end of the iteration, its
-    `unfinished` property says whether the last frame was cut off.
+    `unfinished` property says whether the last frame was cut off. An mmap is read as a file, from its position on.
+
+    Raises TypeError if `source` is neither a contiguous bytes-like object nor an object that a `FrameReader` can read.
 
     >>> for outcome in jcobs.frames(b"\\x03hi\\x00\\x05a\\x00\\x06hello\\x00"):
     ...     print(outcome)

@@ -76,9 +76,12 @@ class Decoder(Coder):
     def feed(self, chunk: ReadableBuffer) -> List[Outcome]:
         """Decodes the next bytes of the stream, and returns the outcomes of the frames that end in these bytes.
 
-        Raises MemoryError if there isn't enough memory for the outcomes. If a signal handler raises an exception, as
-        the handler for Ctrl-C does, the call ends with this exception. In both cases the outcomes of this call are
-        lost, and the decoder is reset.
+        If this call raises TypeError or BufferError, the decoder stays as it was. If there isn't enough memory for the
+        outcomes, the call raises MemoryError. In this case the outcomes of this call are lost, and the decoder is
+        reset. If a signal handler raises an exception, as the handler for Ctrl-C does, the call ends with this
+        exception. In this case the outcomes are lost too, but the decoder may not be reset. In both cases, call
+        `reset`, and drop the bytes that follow the chunk, up to the first sentinel. These bytes may be the rest of a
+        frame.
 
         >>> decoder = jcobs.Decoder(max_length=5)
         >>> for outcome in decoder.feed(b"\\x03hi\\x00\\x06hel\\x00\\x07hello!\\x00"):
@@ -138,7 +141,9 @@ class Encoder(Coder):
     def feed(self, data: ReadableBuffer) -> None:
         """Adds bytes to the message.
 
-        Raises ValueError if the message would become longer than `max_length`. In this case no byte is added.
+        Raises ValueError if the message would become longer than `max_length`. In this case, and if this call raises
+        TypeError or BufferError, no byte is added. If a signal handler raises an exception during this call, the bytes
+        may have been added. In this case call `reset`, and pass the whole message again.
         """
         self._core.feed(data)
 

@@ -1,4 +1,5 @@
-"""Offers the functions of the module `cobs.cobs` of the package `cobs`. A script has to change only its import line:
+"""Offers `encode`, `decode` and `DecodeError` of the module `cobs.cobs` of the package `cobs`. A script that uses only
+these has to change only its import line:
 
 >>> from jcobs import compat as cobs    # was: from cobs import cobs
 >>> cobs.decode(cobs.encode(b"hello"))
