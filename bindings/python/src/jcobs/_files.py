@@ -146,10 +146,15 @@ def keep_some(kept: Kept, port: Any, waiting: int) -> bool:
     return False
 
 
-def read_socket(sock: Any, timeout: Optional[float], kept: Kept, in_python: bool = False) -> bool:
+def read_socket(sock: Any, timeout: Optional[float], kept: Kept) -> bool:
     """Reads the bytes that have arrived at a socket. If no bytes have arrived, waits until some arrive."""
     if timeout is not None and not is_ready(sock, timeout):
         return False
+    return receive(sock, kept)
+
+
+def receive(sock: Any, kept: Kept, in_python: bool = False) -> bool:
+    """Reads bytes from a socket as `keep` does. Returns False if its own timeout passes, or if it would block."""
     try:
         return keep(kept, sock.recv, CHUNK, in_python)
     except BlockingIOError:
@@ -172,7 +177,7 @@ def read_ssl(sock: Any, timeout: Optional[float], kept: Kept) -> bool:
     try:
         if timeout is not None:
             sock.settimeout(timeout)
-        return read_socket(sock, None, kept, in_python=True)
+        return receive(sock, kept, in_python=True)
     except SSLWantReadError:
         return False
     finally:
