@@ -4,16 +4,20 @@
 pub(crate) fn of(name: &str) -> &'static str {
     match name {
         "text" => "Show messages as text if they are UTF-8 without hidden\ncharacters",
-        "raw" => "Write the bytes of messages, each followed by a newline,\nand nothing else",
+        "raw" => {
+            "Write the bytes of messages, each followed by a newline,\nand nothing else; not if the checksum is wrong"
+        }
         "hexdump" => "Show messages as hexdump -C does: offset, bytes and\ncharacters",
         "json" => "Show each piece as an object of JSON, on a line",
-        "bytes" => "Write the bytes of messages, and nothing else",
-        "pcap" => "Write messages as a capture of libpcap, of the type\nUSER0, with UTC times",
+        "bytes" => "Write the bytes of messages, and nothing else; not if\nthe checksum is wrong",
+        "pcap" => {
+            "Write messages as a capture of libpcap, of the type\nUSER0, with UTC times; not if the checksum is wrong"
+        }
         "number" => {
             "Begin each line with its piece's number; pieces that\naren't shown count too"
         }
         "partial" => {
-            "Show the decoded bytes of broken and too long pieces,\nafter the word partial"
+            "Show the decoded bytes of broken and too long pieces,\nafter the word partial; with --json, only as hex"
         }
         "time" => {
             "Begin each line with a time: start (since the start),\nlast (since the last piece), or utc or local (a date)"
@@ -29,7 +33,7 @@ pub(crate) fn of(name: &str) -> &'static str {
 fn of_pieces(name: &str) -> &'static str {
     match name {
         "only" => {
-            "Show pieces of this kind, or of these with commas between\nthem: message, broken, too-long, bad-crc, unfinished"
+            "Show pieces of this kind, or of these with commas between\nthem: message, broken, too-long, bad-crc, unfinished;\nwith any filter, unfinished and hung up are shown only\nif unfinished is named here"
         }
         "min" => "Show pieces of at least N decoded bytes",
         "max" => "Show pieces of at most N decoded bytes",
@@ -44,9 +48,13 @@ fn of_pieces(name: &str) -> &'static str {
         }
         "length" => "The longest message, in bytes",
         "sentinel" => "The byte that ends each frame",
-        "skip-first" => "Skip all bytes up to the first sentinel, as after\neach hang-up",
-        "count" => "Count pieces and bytes on standard error at the\nend, but not at Ctrl-C",
-        "count-every" => "Write the counts so far when bytes arrive, at\nmost once in SECONDS",
+        "skip-first" =>
+            "Skip all bytes up to and including the first\nsentinel, as after each hang-up",
+        "count" =>
+            "Count pieces and bytes on standard error at the\nend, but not if a signal ends the program",
+        "count-every" => {
+            "Write the counts so far to standard error when\nbytes arrive, at most once in SECONDS"
+        }
         "path" => "The device, FIFO or file that is shown; - or no\nPATH is standard input",
         "reconnect" =>
             "Wait until PATH can be opened, and open it again\nafter a hang-up; stty isn't run",
