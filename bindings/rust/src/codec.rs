@@ -14,11 +14,11 @@ use crate::dec::{DecodeError, UnbufferedDecoder};
 /// The codec decodes the bytes as they arrive. So it keeps at most `max_len` bytes of a message, even if the frame is
 /// longer.
 ///
-/// Each item of the stream is a message, or an error for a frame that is broken or too long. It is the error that
-/// [`MessageReader`](crate::MessageReader) would return for this frame. Such a frame never affects another frame. If
-/// the source returns an error, the stream returns this error and ends. If the source ends inside a frame, the stream
-/// returns [`UnexpectedEof`](ErrorKind::UnexpectedEof) and ends. For each message, the sink sends the frame of the
-/// message, and then a zero. The crate `cobs` doesn't have this type.
+/// Each item of the stream is a message, or an error for a frame that is broken or too long.
+/// [`MessageReader`](crate::MessageReader) would return the same error for this frame. Such a frame never affects
+/// another frame. If the source returns an error, the stream returns this error and ends. If the source ends inside a
+/// frame, the stream returns [`UnexpectedEof`](ErrorKind::UnexpectedEof) and ends. For each message, the sink sends the
+/// frame of the message, and then a zero. The crate `cobs` doesn't have this type.
 ///
 /// ```
 /// use bytes::BytesMut;

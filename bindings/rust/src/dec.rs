@@ -155,10 +155,10 @@ pub fn decode_in_place_report(buf: &mut [u8]) -> Result<DecodeReport, DecodeErro
     proved::decode_in_place_report(buf)
 }
 
-/// Decodes the frame at the front of `source`, which was encoded with the given sentinel. Writes the message to the
-/// front of `dest`, and returns the message's length in bytes. The frame ends at the first sentinel, or at the end of
-/// the source. No sentinel is skipped: if `source` begins with a sentinel, the message is empty. The bytes of `dest`
-/// after the message stay as they are.
+/// Decodes the frame at the front of `source`, writes the message to the front of `dest`, and returns the message's
+/// length in bytes. The frame was encoded with the given sentinel. It ends at the first sentinel, or at the end of the
+/// source. No sentinel is skipped: if `source` begins with a sentinel, the message is empty. The bytes of `dest` after
+/// the message stay as they are.
 ///
 /// ```
 /// let mut frame = [0; 8];
@@ -174,9 +174,9 @@ pub fn decode_in_place_report(buf: &mut [u8]) -> Result<DecodeReport, DecodeErro
 /// - [`DecodeError::InvalidFrame`]: the frame breaks off inside a block. Then `dest` begins with the output of the
 ///   blocks before the broken block, and `decoded_bytes` is the length of this output. If the last of these blocks
 ///   isn't full, the output includes the zero after this block.
-/// - [`DecodeError::TargetBufTooSmall`]: the message is longer than `dest`; or the frame breaks off, and the output of
-///   the blocks before the broken block (with the zero after them, if there is one) is longer than `dest`. Then `dest`
-///   holds the first bytes of this message or of this output.
+/// - [`DecodeError::TargetBufTooSmall`]: the message is longer than `dest`. If the frame breaks off, this error means
+///   that the output of the blocks before the broken block is longer than `dest`. If there is a zero after these
+///   blocks, the output includes this zero. In both cases `dest` holds the first bytes of the message or of the output.
 #[inline]
 pub fn decode_with_sentinel(
     source: &[u8],

@@ -182,7 +182,7 @@ impl FusedIterator for DecodeStreamInPlace<'_> {}
 ///
 /// # Errors
 ///
-/// [`AllocError`]: memory for the stream ran out. Each message makes the stream longer, so it needs more memory.
+/// [`AllocError`]: memory for the stream ran out. With each message the stream gets longer, and needs more memory.
 #[cfg(feature = "alloc")]
 pub fn encode_frames<I>(messages: I) -> Result<Vec<u8>, AllocError>
 where

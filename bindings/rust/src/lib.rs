@@ -1,6 +1,6 @@
-//! Encodes and decodes Consistent Overhead Byte Stuffing (COBS) with code that is translated from proved code. All
-//! calls of the crate `cobs` 0.5.1 have the same names and signatures in this crate, except that the parameter of
-//! [`CobsDecoderHeapless::new_with_vec`] has another type.
+//! Encodes and decodes Consistent Overhead Byte Stuffing (COBS) with code that is translated from proved code. This
+//! crate has all calls of the crate `cobs` 0.5.1, with the same names and signatures. The only exception is
+//! [`CobsDecoderHeapless::new_with_vec`]: its parameter has another type.
 //!
 //! COBS encodes a message, which may be any bytes, as a frame that never contains a certain byte value: the sentinel.
 //! So the sentinel, usually 0, can mark the end of each frame on a serial line or in a file. The frame of a message of
@@ -93,13 +93,13 @@
 //! # Features
 //!
 //! - `std` (default) turns on the feature `alloc`. It also turns on the feature `std` of `memchr`, so that `memchr`
-//!   uses AVX2 if the processor has AVX2. `std` also adds [`MessageReader`], [`MessageWriter`], and [`Recorded`], a
-//!   [`FrameSource`] over any [`std::io::Read`].
+//!   uses AVX2 if the processor has AVX2. `std` also adds [`MessageReader`], [`MessageWriter`] and [`Recorded`].
+//!   `Recorded` is a [`FrameSource`] over any [`std::io::Read`].
 //! - `alloc` adds the calls that return a `Vec`, [`encode_frames_room`], [`FrameOutcome`], and [`CobsDecoderOwned`].
 //! - With `small`, a call processes one byte at a time on every target (see "Targets"), and the crate has no `unsafe`
 //!   code.
-//! - `serde` and `defmt` each derive the traits of the crate of the same name. The types with these traits are the
-//!   errors ([`DecodeError`], [`DestBufTooSmallError`], [`PushError`], [`ReadFault`], [`AllocError`]),
+//! - `serde` derives the traits of the crate `serde`, and `defmt` those of the crate `defmt`. The types with these
+//!   traits are the errors ([`DecodeError`], [`DestBufTooSmallError`], [`PushError`], [`ReadFault`], [`AllocError`]),
 //!   [`DecodeReport`], [`PieceEnd`], [`Next`], [`FrameKind`] and `FrameOutcome`.
 //! - With `heapless`, [`CobsDecoderHeapless::new_with_vec`] accepts a `heapless::Vec`.
 //! - `tokio-util` turns on the feature `std`, and adds `MessageCodec`, a codec for streams and sinks of tokio.

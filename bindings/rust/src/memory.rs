@@ -1,4 +1,4 @@
-//! Allocates memory for the calls that return an error, instead of aborting the program, if memory runs out.
+//! Allocates memory for some calls. If memory runs out, these calls return an error instead of aborting the program.
 
 #[cfg(feature = "alloc")]
 use alloc::vec::Vec;

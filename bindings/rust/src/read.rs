@@ -87,9 +87,10 @@ impl<R: BufRead> MessageReader<R> {
     /// Reads until a zero ends a frame, and returns the frame's message.
     ///
     /// - `Ok(Some(Ok(message)))`: a frame has ended, and this is its message.
-    /// - `Ok(Some(Err(error)))`: a frame has ended, but it is broken ([`DecodeError::InvalidFrame`], which has the
-    ///   number of decoded bytes), or its message is longer than `max_len` ([`DecodeError::TargetBufTooSmall`]). Call
-    ///   again for the next message: such a frame never affects another frame.
+    /// - `Ok(Some(Err(error)))`: a frame has ended, but it is broken or too long. If it is broken, the error is
+    ///   [`DecodeError::InvalidFrame`], which has the number of decoded bytes. If its message is longer than `max_len`,
+    ///   the error is [`DecodeError::TargetBufTooSmall`]. Call again for the next message: such a frame never affects
+    ///   another frame.
     /// - `Ok(None)`: the source has ended, and no frame is unfinished. If the source grows later, call again.
     ///
     /// Zeros without a frame between them are skipped. Before a zero ends a frame, the call may read any number of
