@@ -11,4 +11,3 @@ pub mod VectorSteps
 pub mod HeadlineLemmas
 pub mod VectorHeadline
 pub mod ReadsLemmas
-pub mod WrittenLemmas

@@ -6,5 +6,4 @@ pub mod ReachLemmas
 pub mod AfterLemmas
 pub mod RoomLemmas
 pub mod TakingLemmas
-pub mod MarkLemmas
 pub mod ByteLemmas

@@ -15,5 +15,5 @@ pub mod TableLemmas
 pub mod ByByteLemmas
 pub mod FrameTaken
 pub mod FrontFed
-pub mod ReadPiece
+pub mod FirstTaken
 pub mod OpenLemmas

@@ -1,5 +1,5 @@
 -- The results of the functions that decode whole frames, and the bytes of the functions' buffers after the call.
-use Rattle.std.specs.Prelude.{◌≡◌, ⊤, ℕ, ◌+◌, ◌≤◌, ◌==◌, nat_le, min, List, [], ◌∷◌, length, Option, Some, None, Result, Ok, Err, if◌then◌else◌}
+use Rattle.std.specs.Prelude.{◌≡◌, ⊤, ℕ, ◌+◌, ◌==◌, nat_le, min, List, [], ◌∷◌, length, Option, Some, None, Result, Ok, Err, if◌then◌else◌}
 use Rattle.std.specs.List.{prefix_len}
 use Rattle.std.specs.Result.{result_map_both}
 use Rattle.cobs.specs.Overwritten.{overwritten}
@@ -14,10 +14,6 @@ use Rattle.cobs.specs.declared.error.DecodeVecError.TheVariants.{Decode, Memory}
 -- how many zeros a source begins with
 abbrev pub leading_zeros : List ℕ → ℕ
 leading_zeros source = prefix_len (λ byte. byte == 0) source
-
--- the source consists of 2 to 65 nonzero bytes, with or without one zero after them
-abbrev pub IsShortPiece : List ℕ → Type 0
-IsShortPiece source = let n = length (head source) in (2 ≤ n) × (n ≤ 65) × (length source ≤ n + 1)
 
 -- the number of bytes of a source from its start to the end of its first piece p, plus 1 if a zero follows p
 abbrev pub len_through_piece : List ℕ → List ℕ → ℕ

@@ -3,7 +3,7 @@
 use Rattle.std.specs.Prelude.{◌≡◌, ◌≢◌, ℕ, ◌+◌, ◌<◌, ◌==◌, Bool, List, [], ◌∷◌, ◌++◌, length, All, IsTrue, if◌then◌else◌}
 use Rattle.std.specs.List.{concat}
 -- `HasNoZero`: no byte of the list is 0, the sentinel
-pub use Rattle.cobs_bytes.specs.Bytes.{HasNoZero}
+pub use Rattle.cobs.specs.Bytes.{HasNoZero}
 
 -- the list is a block: a code, from 1 to 255, and nonzero bytes after it. The code is the length of the block,
 -- including the code itself.

@@ -82,14 +82,6 @@ pub record HasRoomFor (n : ℕ) (reached : Reached) (bytes : List ℕ) : Type 0 
   pub place : IsPlaceIn n reached
   pub fits : end_after reached bytes ≤ n
 
--- `push_few` accepts these bytes: there are 1 to 8 of them, they can't fill the open block, whatever their values are,
--- and a buffer of n bytes has room for them
-pub record IsFewFor (n : ℕ) (reached : Reached) (bytes : List ℕ) : Type 0 where
-  pub some : 0 < length bytes
-  pub few : length bytes ≤ 8
-  pub open_block : reached.block.code + length bytes < 255
-  pub fits : next_of reached + length bytes ≤ n
-
 -- The bytes pushed to a `CobsEncoder` with this slice and this progress are the message m. The slice begins with the
 -- encoded frame of m, except that the byte at the open block's index may differ. The progress says whether that frame
 -- ends in a full block.

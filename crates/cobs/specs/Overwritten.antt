@@ -1,6 +1,5 @@
 -- The bytes of a buffer after a call.
 use Rattle.std.specs.Prelude.{ℕ, List, ◌+◌, ◌++◌, length, take, drop}
-use Rattle.cobs.specs.Length.{max_overhead}
 
 -- the buffer after these bytes, or as many of them as fit, are written to its front; its other bytes are as they were
 abbrev pub overwritten : List ℕ → List ℕ → List ℕ
@@ -10,6 +9,6 @@ overwritten buffer bytes = take (length buffer) bytes ++ drop (length bytes) buf
 abbrev pub written_at : List ℕ → ℕ → List ℕ → List ℕ
 written_at buffer at bytes = take at buffer ++ bytes ++ drop (at + length bytes) buffer
 
--- the message of n bytes in a buffer that is passed to `encode_in_place`; the message begins at index `max_overhead n`
-abbrev pub message_in : ℕ → List ℕ → List ℕ
-message_in n buffer = take n (drop (max_overhead n) buffer)
+-- the message of n bytes that begins at index `start` of a buffer that is passed to `encode_in_place`
+abbrev pub message_in : ℕ → ℕ → List ℕ → List ℕ
+message_in start n buffer = take n (drop start buffer)

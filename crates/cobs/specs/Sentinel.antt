@@ -4,7 +4,7 @@ use Rattle.std.specs.List.{slice_range}
 use Rattle.cobs.specs.Grammar.{IsEncodedFrame}
 -- `xor_each s`: a list with each byte XORed with s. It turns a frame for the sentinel 0 into a frame for the sentinel
 -- s, and a frame for s into a frame for 0.
-pub use Rattle.cobs_bytes.specs.Bytes.{xor_each}
+pub use Rattle.cobs.specs.Bytes.{xor_each}
 
 -- no byte of the list is the sentinel s
 abbrev pub IsFreeOf : ℕ → List ℕ → Type 0

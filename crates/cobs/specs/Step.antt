@@ -1,7 +1,7 @@
 -- The step of a streaming decoder for one byte, in any phase: the result, the next phase and the next buffer. You can
--- write a decoder of your own with this step. The clauses of `take_byte` cite these definitions; no clause of `feed`
--- does. The clause `feeds` of `feed` states `Feeds`, which names the front of the piece that was fed before the byte.
--- `law_17` states that this step meets `Feeds`.
+-- write a decoder of your own with this step. No clause of `feed` cites these definitions: its clause `feeds` states
+-- `Feeds`, which names the front of the piece that was fed before the byte. `law_17` states that this step meets
+-- `Feeds`.
 use Rattle.std.specs.Prelude.{ℕ, zero, suc, ◌+◌, ◌-◌, ◌==◌, nat_lt, nat_le, min, Bool, true, false, List, slice_set, Option, Some, None, Result, Ok, Err, if◌then◌else◌}
 use Rattle.cobs.specs.Feed.{Phase, Idle, Within, Overlong}
 use Rattle.cobs.specs.declared.error.DecodeError.{DecodeError}

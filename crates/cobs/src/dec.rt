@@ -1,7 +1,6 @@
 //! Decoding: from frames to messages.
 
 mod buffered;
-mod each;
 mod forms;
 mod frame_decoder;
 mod heapless;
@@ -15,14 +14,11 @@ mod unbuffered;
 mod whole;
 
 pub use buffered::{CobsDecoder, CobsDecoderOwned};
-pub use each::{decode_blocks_each, decode_piece};
 pub use forms::{decode_vec, decode_vec_with_sentinel, decode_with_sentinel};
 pub use frame_decoder::{FrameDecoder, PieceEnd, WriteBuffer};
 pub use heapless::CobsDecoderHeapless;
-pub use in_place::{
-    decode_in_place, decode_in_place_report, decode_in_place_with_sentinel, decode_short_in_place,
-};
-pub use kind::{FrameKind, frame_kind, kind_by_blocks};
+pub use in_place::{decode_in_place, decode_in_place_report, decode_in_place_with_sentinel};
+pub use kind::{FrameKind, frame_kind};
 pub use state::{DecodeResult, DecoderState};
 pub use unbuffered::UnbufferedDecoder;
-pub use whole::{decode, decode_short};
+pub use whole::{decode, decode_first};

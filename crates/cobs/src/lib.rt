@@ -96,27 +96,27 @@ mod enc;
 mod error;
 mod find;
 mod framed;
+mod lanes;
 pub mod laws;
 mod stream;
 
 pub use dec::{
     CobsDecoder, CobsDecoderHeapless, CobsDecoderOwned, DecodeResult, DecoderState, FrameDecoder,
-    FrameKind, PieceEnd, UnbufferedDecoder, WriteBuffer, decode, decode_blocks_each,
-    decode_in_place, decode_in_place_report, decode_in_place_with_sentinel, decode_piece,
-    decode_short, decode_short_in_place, decode_vec, decode_vec_with_sentinel,
-    decode_with_sentinel, frame_kind, kind_by_blocks,
+    FrameKind, PieceEnd, UnbufferedDecoder, WriteBuffer, decode, decode_first, decode_in_place,
+    decode_in_place_report, decode_in_place_with_sentinel, decode_vec, decode_vec_with_sentinel,
+    decode_with_sentinel, frame_kind,
 };
 pub use enc::{
     CobsEncoder, EncoderState, PushResult, UnbufferedEncoder, encode, encode_in_place,
     encode_including_sentinels, encode_vec, encode_vec_including_sentinels,
-    encode_vec_with_sentinel, encode_with_sentinel, try_encode, try_encode_each,
-    try_encode_including_sentinels, try_encode_with_sentinel,
+    encode_vec_with_sentinel, encode_with_sentinel, try_encode, try_encode_including_sentinels,
+    try_encode_with_sentinel,
 };
 pub use error::{
     DecodeError, DecodeReport, DecodeVecError, DecodingResult, DestBufTooSmallError, PushError,
 };
-pub use find::{leading_zeros, len_to_zero};
 pub use framed::{FrameReader, FrameSource, Next, ReadFault, Recorded};
+pub use lanes::xor_bytes;
 pub use stream::{FrameOutcome, decode_stream, encode_frames, encode_frames_room};
 
 /// Returns the greatest overhead, in bytes, that an encoded frame can have if its message has `source_len` bytes. The

@@ -1,4 +1,6 @@
+mod AnswerLemmas
 mod BufferLemmas
+mod FinishLemmas
 mod HeadLemmas
-mod InPlaceLemmas
-mod SourceLemmas
+mod PieceLemmas
+mod WritesLemmas

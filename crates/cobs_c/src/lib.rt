@@ -4,6 +4,7 @@
 //! in C meets the preconditions. For a slice, C passes the pointer and then the length.
 #![tactic(auto)]
 
+mod answer;
 mod decode;
 mod decoder;
 mod encode;

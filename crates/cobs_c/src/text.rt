@@ -1,9 +1,26 @@
 //! The text of each status, and the library's version.
 ghost use Rattle.std.specs.Prelude.{◌≡◌, ◌-◌, ◌∷◌, ◌++◌, [], length, take};
 ghost use Rattle.cobs.specs.Overwritten.{overwritten};
-ghost use Rattle.cobs_abi.specs.Text.{words};
+ghost use Rattle.cobs_c.specs.Text.{words};
 
-use cobs_abi::{VERSION, words};
+use crate::answer::{BROKEN, EMPTY, MORE, OK, TOO_SMALL};
+
+/// The version as one number: 10,000 times the major number, plus 100 times the minor number, plus the patch number.
+pub const VERSION: u32 = 10000;
+
+/// Returns the meaning of a status as text.
+fn words(status: u32) -> &'static str
+    ensures { result.now ≡ words status }
+{
+    match status {
+        OK => "done",
+        MORE => "more bytes are needed",
+        TOO_SMALL => "the buffer is too small",
+        BROKEN => "the frame breaks off inside a block",
+        EMPTY => "there is no frame",
+        _ => "unknown status",
+    }
+}
 
 /// Writes the text of a status, followed by a zero, to the front of `text`. If the text and the zero don't fit, only
 /// the first bytes of the text are written, followed by the zero. If `text` is empty, nothing is written. Returns the

@@ -7,7 +7,7 @@ use Rattle.cobs_live.specs.Shown.{in_front, in_view, passes, styled}
 use Rattle.cobs_live.specs.declared.clock.Stamp.TheVariants.{Untimed}
 use Rattle.cobs_live.specs.declared.clock.Times.{Times}
 use Rattle.cobs_live.specs.declared.shown.Style.{Style}
-use Rattle.cobs_live.specs.declared.shown.Style.TheVariants.{Hex, Text, Raw, Hexdump, Json, Bytes, Pcap}
+use Rattle.cobs_live.specs.declared.shown.Style.TheVariants.{Hex, Text, Raw, Hexdump, Json, Pcap}
 use Rattle.cobs_live.specs.declared.shown.View.{View}
 
 -- if P implies Q, and P holds if the result is an `Ok`, then Q holds if the result is an `Ok`
@@ -22,10 +22,9 @@ untimed-front Text times = refl
 untimed-front Raw times = refl
 untimed-front Hexdump times = refl
 untimed-front Json times = refl
-untimed-front Bytes times = refl
 untimed-front Pcap times = refl
 
 -- if a piece passes the filter, and the view has no colour, number or time, the text of the piece in the view is its
 -- text in the style
-pub bare-view : (view : View) (number : ℕ) (times : Times) (seen : Seen) → passes view.filter seen ≡ true → view.color ≡ false → view.number ≡ false → view.stamp ≡ Untimed → in_view view number times seen ≡ styled view.style false number Untimed times seen
+pub bare-view : (view : View) (number : ℕ) (times : Times) (seen : Seen) → passes view.filter seen.kind ≡ true → view.color ≡ false → view.number ≡ false → view.stamp ≡ Untimed → in_view view number times seen ≡ styled view.style false number Untimed times seen
 bare-view view number times seen shown plain alone untimed = rw (shown, plain, alone, untimed, untimed-front view.style times) refl

@@ -4,7 +4,6 @@ pub mod TimeLemmas
 pub mod PartLemmas
 pub mod ShowLemmas
 pub mod SkipLemmas
-pub mod LineLemmas
 pub mod DumpLemmas
 pub mod RunLemmas
 pub mod SendLemmas

@@ -1,10 +1,10 @@
 -- Lemmas on a run of `show`. After each read the facts of `HasShownSoFar` still hold, and the run is still live
--- (`live-next`, `given-next`). The lemmas `more-..` show the parts of `HasShownSoFar` after a read that returned bytes,
--- and `hung-up` shows `HasShownSoFar` after a hang-up. At the end of the input and after each fault, the text is the
--- one that `HasShown` describes (`shown-..`, `unfinished-fault`).
+-- (`live-next`, `given-next`). The lemmas `more-..` show the parts of `HasShownSoFar` after a read that returned bytes.
+-- At the end of the input and after each fault, the text is the one that `HasShown` describes (`shown-..`,
+-- `unfinished-fault`).
 -- `law_9`: A stream may be cut anywhere.
-use Rattle.std.proofs.Common.{◌≡◌, ◌≢◌, ◌≤◌, ◌+◌, ◌↔◌, ℕ, Bool, true, false, List, [], ◌∷◌, ◌++◌, length, map, take, drop, refl, sym, ap, ◌∙◌, subst, arith, append-nil, append_assoc, length-append, Option, Some, None, Result, Ok, Err}
-use Rattle.std.specs.Prelude.{IfSome, IsErrAnd}
+use Rattle.std.proofs.Common.{◌≡◌, ◌≢◌, ◌≤◌, ◌+◌, ◌↔◌, ℕ, Bool, true, false, List, [], ◌∷◌, ◌++◌, length, take, drop, refl, sym, ap, ◌∙◌, subst, arith, append-nil, length-append, Option, Some, None, Result, Ok, Err}
+use Rattle.std.specs.Prelude.{IsErrAnd}
 use Rattle.std.proofs.Math.Seq.{take-append_seam}
 use Rattle.std.proofs.lemmas.List.{map-append}
 use Rattle.std.proofs.lemmas.List.Elements.{All-nil}
@@ -21,20 +21,17 @@ use Rattle.cobs_live.proofs.SkipLemmas.{begun-append, begun-none, skips_on-appen
 use Rattle.cobs_live.proofs.TimeLemmas.{extended, IsReadAt-extended, IsTimeline-extended, shown_from-extended}
 use Rattle.cobs_live.specs.Counted.{IsTallyOf}
 use Rattle.cobs_live.proofs.ReadLemmas.{came-more, joined-append, live-more, live-none}
-use Rattle.cobs_live.specs.Reads.{IsLive, Read, ReadsOnce, Takes, came, given, joined}
-use Rattle.cobs_live.specs.declared.input.Came.{Came}
-use Rattle.cobs_live.specs.declared.input.Came.TheVariants.{Bytes, HungUp}
-use Rattle.cobs_live.specs.Live.{BeginsAnew, HasShownSoFar, HoldsText, IsLiveSoFar, ShowsEnd, ShowsHangUp, ShowsNext}
+use Rattle.cobs_live.specs.Reads.{IsLive, Read, ReadsOnce, came, joined}
+use Rattle.cobs_live.specs.Live.{HasShownSoFar, HoldsText, IsLiveSoFar, ShowsEnd, ShowsNext}
 use Rattle.cobs_live.specs.Seen.{all_ended}
-use Rattle.cobs_live.specs.Shown.{outcomes_of, shown_from, shown_hang_up}
+use Rattle.cobs_live.specs.Shown.{shown_from}
 use Rattle.cobs_live.specs.Timed.{IsReadAt}
 use Rattle.cobs_live.specs.declared.clock.Moment.{Moment}
 use Rattle.cobs_live.specs.declared.clock.Times.{Times}
 use Rattle.cobs_live.specs.declared.show.Watch.{Watch}
 use Rattle.cobs_live.specs.declared.shown.Settings.{Settings}
-use Rattle.cobs_live.specs.Watched.{HasShown, HasShownAll, HasWritten, all_outcomes, begun, count_bytes, gone_streams, letters_of, open_stream, shown_ended, shown_lines, skips_behind, skips_on, stream_of}
+use Rattle.cobs_live.specs.Watched.{HasShown, HasShownAll, HasWritten, all_outcomes, begun, shown_ended, shown_stream, skips_on, stream_of}
 use Rattle.cobs_live.specs.declared.shown.View.{View}
-use Rattle.cobs_live.proofs.LineLemmas.{count_bytes-gone, outcomes_of-gone, shown_gone-extended, shown_gone-gone, skips_behind-gone, streams_of-gone}
 use Rattle.cobs_live.specs.declared.fault.WatchFault.{WatchFault}
 use Rattle.cobs_live.specs.declared.fault.WatchFault.TheVariants.{OutOfMemory, OutputClosed, ReadFailed, WriteFailed}
 use Rattle.cobs_live.specs.declared.tally.Tally.{Tally}
@@ -47,12 +44,7 @@ begun-after [] n phase begun is idle = idle.1 is
 begun-after (b ∷ bs) n phase true is idle = refl
 begun-after (b ∷ bs) n phase false is idle = grind arith
 
--- if P holds, it holds in particular if the bytes of a reader are known
-pub whatever : (from : Option (List ℕ)) (P : Type 0) → P → IfSome from (λ _. P)
-whatever None P p = tt
-whatever (Some xs) P p = p
-
--- before the first read, a new watch has shown nothing: no line has hung up, no byte was read, and no piece has ended
+-- before the first read, a new watch has shown nothing: no byte was read, and no piece has ended
 pub HasShownSoFar-start : (law : StreamLaw) (settings : Settings) (from before : Option (List ℕ)) (watch : Watch) → DecoderAfter watch.message.items (phase_of watch.decoder) []
     → IsTallyOf settings.view.checksum watch.tally [] 0 → watch.clock.last.millis ≡ 0 → length watch.message.items ≡ settings.length → watch.settings.now ≡ settings → watch.skipping ≡ settings.skip_first
     → HasShownSoFar settings from from before before watch
@@ -62,12 +54,10 @@ HasShownSoFar-start law settings from before watch idle none first len same skip
     let no_outcomes : stream_outcomes (begun settings.skip_first []) settings.length ≡ [] = ap (λ (t : List ℕ). stream_outcomes t settings.length) (begun-none settings.skip_first) ∙ law.none [] settings.length no_zero in
     record {
       ended = record {
-        gone = [];
         bytes = [];
         times = λ number. watch.clock.last;
         -- all pieces have the time of the clock, which is 0
         timeline = record { start = first; rises = λ number. omega arith };
-        alone = whatever from _ refl;
         read = Consumes-nil from;
         -- no text is written, because no piece has ended
         written = rw (all_ended-none (begun settings.skip_first []) settings.length no_outcomes, shown_from-none settings.view (λ number. watch.clock.last) 0) (Appends-nil before);
@@ -81,22 +71,20 @@ HasShownSoFar-start law settings from before watch idle none first len same skip
       skips = skips ∙ sym (skips_on-none settings.skip_first);
     }
 
--- if the reads returned the bytes and hang-ups of the state so far, the text that was written is right for these
--- results
-pub HoldsText-so_far : {settings : Settings} {from to before after : Option (List ℕ)} {watch : Watch} (s : HasShownSoFar settings from to before after watch) (came : List (List (Option ℕ))) → joined came ≡ letters_of s.ended.gone s.ended.bytes → HoldsText settings before came after
-HoldsText-so_far s came e = record { gone = s.ended.gone; bytes = s.ended.bytes; lines = e; times = s.ended.times; timeline = s.ended.timeline; written = s.ended.written }
+-- if the reads returned the bytes of the state so far, the text that was written is right for these results
+pub HoldsText-so_far : {settings : Settings} {from to before after : Option (List ℕ)} {watch : Watch} (s : HasShownSoFar settings from to before after watch) (came : List (List ℕ)) → joined came ≡ s.ended.bytes → HoldsText settings before came after
+HoldsText-so_far s came e = record { times = s.ended.times; timeline = s.ended.timeline; written = rw e s.ended.written }
 
 -- before the first read, a run whose watch has shown nothing is live, for any bytes `from` of the reader; the premise
 -- is stated for a reader whose known bytes are empty
-pub HasShownSoFar-live : {S : Type 0} (step : S → Read (Option ℕ) → S → Type 0) (source : S) {settings : Settings} (from : Option (List ℕ)) {before : Option (List ℕ)} {watch : Watch} → HasShownSoFar settings (Some []) (Some []) before before watch
+pub HasShownSoFar-live : {S : Type 0} (step : S → Read ℕ → S → Type 0) (source : S) {settings : Settings} (from : Option (List ℕ)) {before : Option (List ℕ)} {watch : Watch} → HasShownSoFar settings (Some []) (Some []) before before watch
     → IsLiveSoFar step source source settings from from before before watch
 HasShownSoFar-live step source from s =
-    -- no byte was read, and no line has hung up (`first`)
+    -- no byte was read
     let none : s.ended.bytes ≡ [] = sym (append-nil s.ended.bytes) ∙ sym s.ended.read in
-    let first : s.ended.gone ≡ [] = s.ended.alone in
     record {
       so_far = record {
-        ended = record { gone = s.ended.gone; bytes = s.ended.bytes; times = s.ended.times; timeline = s.ended.timeline; alone = whatever from _ first; read = rw none (Consumes-nil from); written = s.ended.written };
+        ended = record { bytes = s.ended.bytes; times = s.ended.times; timeline = s.ended.timeline; read = rw none (Consumes-nil from); written = s.ended.written };
         taken = s.taken;
         tallied = s.tallied;
         len = s.len;
@@ -106,19 +94,19 @@ HasShownSoFar-live step source from s =
       };
       live = live-none step source _;
       -- no read was made, so there are no results
-      given = sym (ap (letters_of s.ended.gone) none ∙ ap (λ (g : List (List ℕ)). letters_of g []) first);
+      given = sym none;
     }
 
 -- a run that is live so far, and its next read, which changes the source from `mid` to `source'` and has the result
--- `letters`
-module _ {S : Type 0} {step : S → Read (Option ℕ) → S → Type 0} {source mid source' : S} {settings : Settings} {from to before after : Option (List ℕ)} {watch : Watch} {letters : List (Option ℕ)} where
+-- `bytes`
+module _ {S : Type 0} {step : S → Read ℕ → S → Type 0} {source mid source' : S} {settings : Settings} {from to before after : Option (List ℕ)} {watch : Watch} {bytes : List ℕ} where
   -- the run is still live with this read
-  abbrev pub live-next : IsLiveSoFar step source mid settings from to before after watch → ReadsOnce step mid source' after letters → IsLive step source source' (HoldsText settings before)
-  live-next s r = live-more s.live r (λ nothing none. HoldsText-so_far s.so_far (came s.live.reads ++ nothing) (joined-append (came s.live.reads) nothing ∙ ap (λ (x : List (Option ℕ)). joined (came s.live.reads) ++ x) none ∙ append-nil _ ∙ s.given))
+  abbrev pub live-next : IsLiveSoFar step source mid settings from to before after watch → ReadsOnce step mid source' after bytes → IsLive step source source' (HoldsText settings before)
+  live-next s r = live-more s.live r (λ nothing none. HoldsText-so_far s.so_far (came s.live.reads ++ nothing) (joined-append (came s.live.reads) nothing ∙ ap (λ (x : List ℕ). joined (came s.live.reads) ++ x) none ∙ append-nil _ ∙ s.given))
 
   -- the results of all reads are the results so far, and then those of this read
-  pub given-next : (s : IsLiveSoFar step source mid settings from to before after watch) (r : ReadsOnce step mid source' after letters) → joined (came (live-next s r).reads) ≡ letters_of s.so_far.ended.gone s.so_far.ended.bytes ++ letters
-  given-next s r = came-more s.live.reads r ∙ ap (λ (x : List (Option ℕ)). x ++ letters) s.given
+  pub given-next : (s : IsLiveSoFar step source mid settings from to before after watch) (r : ReadsOnce step mid source' after bytes) → joined (came (live-next s r).reads) ≡ s.so_far.ended.bytes ++ bytes
+  given-next s r = came-more s.live.reads r ∙ ap (λ (x : List ℕ). x ++ bytes) s.given
 
 -- a tally for some settings is a tally for equal settings
 pub same-tallied : (a b : Settings) (tally : Tally) (outcomes : List Outcome) (read : ℕ) → a ≡ b → IsTallyOf a.view.checksum tally outcomes read → IsTallyOf b.view.checksum tally outcomes read
@@ -131,50 +119,26 @@ flushed-Appends None inner' held held' text none none' w = tt
 flushed-Appends (Some xs) None held held' text none none' w = absurd w
 flushed-Appends (Some xs) (Some ys) held held' text none none' w = grind (arith, append-nil)
 
--- if the reader's bytes aren't known after a hang-up (`to`), they weren't known before either, so any P holds if they
--- were known
-pub unknown-alone : (from to : Option (List ℕ)) (bytes : List ℕ) (P : Type 0) → to ≡ None → Consumes from to bytes → IfSome from (λ _. P)
-unknown-alone None to bytes P none c = tt
-unknown-alone (Some xs) to bytes P none c = grind arith
-
--- if the reader's bytes aren't known after a hang-up (`to`), nothing is claimed about the bytes that were read before
--- it
-pub unknown-read : (from to to' : Option (List ℕ)) (bytes : List ℕ) → to ≡ None → Consumes from to bytes → Consumes from to' []
-unknown-read None to to' bytes none c = tt
-unknown-read (Some xs) to to' bytes none c = grind arith
-
 -- s is the state of a run before its next read
 module _ (law : StreamLaw) {settings : Settings} {from to before after : Option (List ℕ)} {watch : Watch} (s : HasShownSoFar settings from to before after watch) where
-  -- whether the beginning of the open line is skipped
-  abbrev pub skip : Bool
-  skip = skips_behind settings.skip_first s.ended.gone
-
-  -- the streams of the lines that hung up
-  abbrev pub streams : List (List ℕ)
-  streams = gone_streams settings s.ended.gone
-
-  -- the outcomes of the pieces of these lines
-  abbrev pub before_open : List Outcome
-  before_open = outcomes_of streams settings.length
-
-  -- the stream of the open line
+  -- the stream so far
   abbrev pub opened : List ℕ
-  opened = open_stream settings s.ended.gone s.ended.bytes
+  opened = stream_of settings s.ended.bytes
 
-  -- the bytes that `more` bytes of the open line add to its stream
+  -- the bytes that `more` bytes add to the stream
   abbrev pub newly : List ℕ → List ℕ
   newly more = begun watch.skipping (xor_each watch.settings.now.sentinel more)
 
-  -- WITH MORE BYTES of the open line: its stream is the stream so far, and then these new bytes
-  pub more-stream : (more : List ℕ) → open_stream settings s.ended.gone (s.ended.bytes ++ more) ≡ opened ++ newly more
+  -- WITH MORE BYTES the stream is the stream so far, and then these new bytes
+  pub more-stream : (more : List ℕ) → stream_of settings (s.ended.bytes ++ more) ≡ opened ++ newly more
   more-stream more = grind (arith, map-append, begun-append)
 
-  -- whether bytes are still skipped after `more` bytes: the watch and `more` say the same as all bytes of the open line
-  pub more-skips : (more : List ℕ) → skips_on watch.skipping (xor_each watch.settings.now.sentinel more) ≡ skips_on skip (xor_each settings.sentinel (s.ended.bytes ++ more))
+  -- whether bytes are still skipped after `more` bytes: the watch and `more` say the same as all bytes
+  pub more-skips : (more : List ℕ) → skips_on watch.skipping (xor_each watch.settings.now.sentinel more) ≡ skips_on settings.skip_first (xor_each settings.sentinel (s.ended.bytes ++ more))
   more-skips more = grind (arith, map-append, skips_on-append)
 
-  -- the unended bytes of the open line with `more` bytes are those of the unended bytes so far and the new bytes
-  pub more-left : (more : List ℕ) → unended (open_stream settings s.ended.gone (s.ended.bytes ++ more)) ≡ unended (unended opened ++ newly more)
+  -- the unended bytes of the stream with `more` bytes are those of the unended bytes so far and the new bytes
+  pub more-left : (more : List ℕ) → unended (stream_of settings (s.ended.bytes ++ more)) ≡ unended (unended opened ++ newly more)
   more-left more = ap unended (more-stream more) ∙ law.left opened (newly more)
 
   -- the outcomes of the pieces that end in `more` bytes
@@ -182,32 +146,26 @@ module _ (law : StreamLaw) {settings : Settings} {from to before after : Option 
   new_outcomes more = stream_outcomes (unended opened ++ newly more) (length watch.message.items)
 
   -- all outcomes with `more` bytes are those so far, and then the new ones
-  pub more-outcomes : (more : List ℕ) → all_outcomes settings s.ended.gone (s.ended.bytes ++ more) ≡ all_outcomes settings s.ended.gone s.ended.bytes ++ new_outcomes more
+  pub more-outcomes : (more : List ℕ) → all_outcomes settings (s.ended.bytes ++ more) ≡ all_outcomes settings s.ended.bytes ++ new_outcomes more
   more-outcomes more =
-      ap (λ (t : List ℕ). before_open ++ stream_outcomes t settings.length) (more-stream more)
-      ∙ ap (λ (l : List Outcome). before_open ++ l) (law.cut opened (newly more) settings.length)
-      ∙ ap (λ (k : ℕ). before_open ++ (stream_outcomes opened settings.length ++ stream_outcomes (unended opened ++ newly more) k)) (sym s.len)
-      ∙ sym (append_assoc before_open (stream_outcomes opened settings.length) (new_outcomes more))
+      ap (λ (t : List ℕ). stream_outcomes t settings.length) (more-stream more)
+      ∙ law.cut opened (newly more) settings.length
+      ∙ ap (λ (k : ℕ). stream_outcomes opened settings.length ++ stream_outcomes (unended opened ++ newly more) k) (sym s.len)
 
-  -- the pieces that have ended in the open line with `more` bytes are those so far, and then the pieces that end in
-  -- `more`
-  pub more-pieces : (more : List ℕ) → all_ended (open_stream settings s.ended.gone (s.ended.bytes ++ more)) settings.length
+  -- the pieces that have ended with `more` bytes are those so far, and then the pieces that end in `more`
+  pub more-pieces : (more : List ℕ) → all_ended (stream_of settings (s.ended.bytes ++ more)) settings.length
       ≡ all_ended opened settings.length ++ all_ended (unended opened ++ newly more) (length watch.message.items)
   more-pieces more = grind (arith, more-stream, all_ended-append)
 
-  -- the number of bytes that were read grows by the number of `more`
-  more-count : (more : List ℕ) → count_bytes s.ended.gone (s.ended.bytes ++ more) ≡ count_bytes s.ended.gone s.ended.bytes + length more
-  more-count more = grind (arith, length-append)
-
-  -- a tally of the outcomes so far, the new outcomes and the read bytes is the tally of the lines with `more` bytes
+  -- a tally of the outcomes so far, the new outcomes and the read bytes is the tally of all bytes with `more`
   pub more-tallied : (tally : Tally) (more : List ℕ)
-      → IsTallyOf watch.settings.now.view.checksum tally (all_outcomes settings s.ended.gone s.ended.bytes ++ new_outcomes more) (count_bytes s.ended.gone s.ended.bytes + length more)
-      → IsTallyOf settings.view.checksum tally (all_outcomes settings s.ended.gone (s.ended.bytes ++ more)) (count_bytes s.ended.gone (s.ended.bytes ++ more))
-  more-tallied tally more t = grind (arith, more-outcomes, more-count, same-tallied)
+      → IsTallyOf watch.settings.now.view.checksum tally (all_outcomes settings s.ended.bytes ++ new_outcomes more) (length s.ended.bytes + length more)
+      → IsTallyOf settings.view.checksum tally (all_outcomes settings (s.ended.bytes ++ more)) (length (s.ended.bytes ++ more))
+  more-tallied tally more t = grind (arith, more-outcomes, length-append, same-tallied)
 
   -- the number of pieces that have ended so far
   abbrev pub known : ℕ
-  known = length (all_outcomes settings s.ended.gone s.ended.bytes)
+  known = length (all_outcomes settings s.ended.bytes)
 
   -- the times of all pieces, if the pieces that end in `more` bytes are read at the time `now`
   abbrev pub more-times : Moment → ℕ → Moment
@@ -219,30 +177,28 @@ module _ (law : StreamLaw) {settings : Settings} {from to before after : Option 
 
   -- after the new pieces, the clock's last time is the time of the last piece of all
   pub more-timed : (clock : Times) (now : Moment) (more : List ℕ)
-      → IsReadAt (more-times now) (length (all_outcomes settings s.ended.gone s.ended.bytes ++ new_outcomes more)) clock
-      → clock.last ≡ more-times now (length (all_outcomes settings s.ended.gone (s.ended.bytes ++ more)))
+      → IsReadAt (more-times now) (length (all_outcomes settings s.ended.bytes ++ new_outcomes more)) clock
+      → clock.last ≡ more-times now (length (all_outcomes settings (s.ended.bytes ++ more)))
   more-timed clock now more r = grind (arith, more-outcomes)
 
   -- the text of the pieces that end in `more` bytes
   abbrev pub new_text : View → Moment → List ℕ → List ℕ
   new_text view now more = shown_from view (more-times now) known (all_ended (unended opened ++ newly more) (length watch.message.items))
 
-  -- the text of the lines with `more` bytes is the text so far, and then the new text
-  pub more-text : (now : Moment) (more : List ℕ) → shown_lines settings (more-times now) s.ended.gone (s.ended.bytes ++ more)
-      ≡ shown_lines settings s.ended.times s.ended.gone s.ended.bytes ++ new_text settings.view now more
-  more-text now more = grind (arith, length-append, length-all_ended, more-pieces, shown_from-append, append_assoc, shown_gone-extended, shown_from-extended)
+  -- the text with `more` bytes is the text so far, and then the new text
+  pub more-text : (now : Moment) (more : List ℕ) → shown_stream settings (more-times now) (s.ended.bytes ++ more)
+      ≡ shown_stream settings s.ended.times s.ended.bytes ++ new_text settings.view now more
+  more-text now more = grind (arith, length-all_ended, more-pieces, shown_from-append, shown_from-extended)
 
-  -- if the new text was written, the text of the lines with `more` bytes has been written
+  -- if the new text was written, the text with `more` bytes has been written
   abbrev pub more-ended : {to' after' : Option (List ℕ)} (more : List ℕ) (now : Moment) → watch.clock.last.millis ≤ now.millis → Consumes to to' more
       → Appends after after' (new_text watch.settings.now.view now more)
-      → HasWritten (shown_lines settings) from to' before after'
+      → HasWritten (shown_stream settings) from to' before after'
   more-ended {to' = to'} {after' = after'} more now later r written = record {
-    gone = s.ended.gone;
     bytes = s.ended.bytes ++ more;
     times = more-times now;
     -- `now` isn't before the times so far (`later`), so the times are still a timeline
     timeline = IsTimeline-extended s.ended.times known now s.ended.timeline (omega (arith, later, ap (λ (m : Moment). m.millis) s.timed));
-    alone = s.ended.alone;
     -- the reads so far consumed the bytes so far, and this read consumed `more`
     read = Consumes-trans from to to' s.ended.bytes more s.ended.read r;
     -- the text so far was written, and then the new text
@@ -254,14 +210,12 @@ module _ (law : StreamLaw) {settings : Settings} {from to before after : Option 
   -- has been written
   pub shown-ended : {to' after' : Option (List ℕ)} → Consumes to to' [] → ShowsEnd (phase_of watch.decoder) watch.settings.now.view after after' → HasWritten (shown_ended settings) from to' before after'
   shown-ended {to' = to'} {after' = after'} r end =
-      -- a piece has begun if and only if the open line has unended bytes
+      -- a piece has begun if and only if the stream has unended bytes
       let is : end.begun ≡ is_nonempty (unended opened) = begun-after (unended opened) (length watch.message.items) (phase_of watch.decoder) end.begun s.taken.phased.phase_is end.idle in
       record {
-        gone = s.ended.gone;
         bytes = s.ended.bytes;
         times = s.ended.times;
         timeline = s.ended.timeline;
-        alone = s.ended.alone;
         -- the bytes so far are all bytes that were read
         read = subst (Consumes from to') (append-nil s.ended.bytes) (Consumes-trans from to to' s.ended.bytes [] s.ended.read r);
         -- the text so far was written, and then the text of `ShowsEnd`
@@ -283,79 +237,10 @@ module _ (law : StreamLaw) {settings : Settings} {from to before after : Option 
   unfolding shown-ended
   shown-all r at_end end = record { all = shown-ended r end; tallied = s.tallied; end = at_end }
 
-  -- THE LINE HUNG UP
-
-  -- before a byte of the next line is read, its stream is empty
-  pub not_begun : (b : Bool) → stream_of settings b [] ≡ []
-  not_begun b = begun-none b
-
-  -- so the stream of the next line has no outcome yet
-  no_outcomes : (b : Bool) → stream_outcomes (stream_of settings b []) settings.length ≡ []
-  no_outcomes b = ap (λ (t : List ℕ). stream_outcomes t settings.length) (not_begun b) ∙ law.none [] settings.length (All-nil (λ (b : ℕ). b ≢ 0))
-
-  -- if the open line hangs up, the lines that hung up have one stream more: the stream of this line
-  gone-streams : gone_streams settings (s.ended.gone ++ s.ended.bytes ∷ []) ≡ streams ++ opened ∷ []
-  gone-streams = grind (arith, streams_of-gone)
-
-  -- the hang-up doesn't change the outcomes of all lines
-  pub gone-outcomes : all_outcomes settings (s.ended.gone ++ s.ended.bytes ∷ []) [] ≡ all_outcomes settings s.ended.gone s.ended.bytes
-  gone-outcomes = grind (arith, no_outcomes, append-nil, gone-streams, outcomes_of-gone)
-
-  -- the text of the lines after the hang-up is the text so far, and then the text of the hang-up
-  pub gone-text : shown_lines settings s.ended.times (s.ended.gone ++ s.ended.bytes ∷ []) []
-      ≡ shown_lines settings s.ended.times s.ended.gone s.ended.bytes ++ shown_hang_up settings.view (is_nonempty (unended opened))
-  gone-text = grind (arith, all_ended-none, no_outcomes, shown_from-none, append-nil, gone-streams, shown_gone-gone, append_assoc)
-
-  -- the state after the hang-up: the open line is the last one that hung up, and the next line has no byte yet
-  abbrev pub hung-up : {to' after' : Option (List ℕ)} {watch' : Watch} → to ≡ None → ShowsHangUp (phase_of watch.decoder) watch.settings.now.view after after' → BeginsAnew watch watch'
-      → HasShownSoFar settings from to' before after' watch'
-  hung-up {to' = to'} {after' = after'} {watch' = watch'} unknown shows anew =
-      -- a piece had begun if and only if the open line had unended bytes
-      let is : shows.begun ≡ is_nonempty (unended opened) = begun-after (unended opened) (length watch.message.items) (phase_of watch.decoder) shows.begun s.taken.phased.phase_is shows.idle in
-      record {
-        ended = record {
-          -- the open line is now the last line that hung up, and no byte of the next line was read
-          gone = s.ended.gone ++ s.ended.bytes ∷ [];
-          bytes = [];
-          times = s.ended.times;
-          timeline = s.ended.timeline;
-          -- the reader's bytes aren't known (`unknown`), so nothing is claimed about them
-          alone = unknown-alone from to s.ended.bytes _ unknown s.ended.read;
-          read = unknown-read from to to' s.ended.bytes unknown s.ended.read;
-          -- the text so far was written, and then the text of the hang-up
-          written = subst (Appends before after') (sym gone-text) (Appends-trans before after after' _ _ s.ended.written (rw (s.same, is) at shows.written));
-        };
-        -- the decoder is idle, as it is before the next line
-        taken = rw (not_begun (skips_behind settings.skip_first (s.ended.gone ++ s.ended.bytes ∷ [])), law.same [] (All-nil (λ (b : ℕ). b ≢ 0))) anew.taken;
-        -- the counts, the buffer, the times and the settings are as they were before the hang-up
-        tallied = rw (gone-outcomes, count_bytes-gone s.ended.gone s.ended.bytes, anew.tally) s.tallied;
-        len = ap (λ message. length message.items) anew.message ∙ s.len;
-        timed = ap (λ (c : Times). c.last) anew.clock ∙ s.timed ∙ ap (λ (os : List Outcome). s.ended.times (length os)) (sym gone-outcomes);
-        same = ap (λ settings. settings.now) anew.settings ∙ s.same;
-        -- bytes of the next line are skipped up to its first sentinel
-        skips = anew.awaited ∙ sym (skips_on-none (skips_behind settings.skip_first (s.ended.gone ++ s.ended.bytes ∷ [])) ∙ skips_behind-gone settings.skip_first s.ended.gone s.ended.bytes);
-      }
-
 -- if a message of the same length was written over all items of a vector, the first `len` items of the vector are the
 -- message
 pub whole-message : (message items : List ℕ) (len : ℕ) → len ≡ length items → length message ≡ length items → take len (message ++ drop (length message) items) ≡ message
 whole-message message items len is same = grind (arith, take-append_seam)
-
--- if a read returned n bytes, its clause `Takes` is the one for n bytes
-pub takes-bytes : (from to : Option (List ℕ)) (gave : Came) (n : ℕ) (chunk : List ℕ) → gave ≡ Bytes n → Takes from to gave chunk → Takes from to (Bytes n) chunk
-takes-bytes from to gave n chunk is h = grind arith
-
--- if a read found a hang-up, its clause `Takes` is the one for a hang-up
-pub takes-hang_up : (from to : Option (List ℕ)) (gave : Came) (chunk : List ℕ) → gave ≡ HungUp → Takes from to gave chunk → Takes from to HungUp chunk
-takes-hang_up from to gave chunk is h = grind arith
-
--- the result of a read that returned n bytes is these bytes
-pub given-bytes : (E : Type 0) (gave : Came) (n : ℕ) (chunk : List ℕ) → gave ≡ Bytes n → given {E = E} (Ok gave) chunk ≡ map Some (take n chunk)
-given-bytes E gave n chunk is = grind arith
-
--- the result of a read that found a hang-up is one hang-up
-pub given-hang_up : (E : Type 0) (gave : Came) (chunk : List ℕ) → gave ≡ HungUp → given {E = E} (Ok gave) chunk ≡ None ∷ []
-given-hang_up E gave chunk is = grind arith
 
 -- if the result of a run is this fault, and `HasShown` holds for this fault, it holds for the result
 pub shown-fault : (settings : Settings) (from to before after : Option (List ℕ)) (result : Result Tally WatchFault) (fault : WatchFault) → IsErrAnd result (λ found. found ≡ fault)

@@ -1,40 +1,28 @@
 -- Reads of an input, with the contents of an output at each read.
-use Rattle.std.specs.Prelude.{ℕ, ◌≡◌, ◌≤◌, ◌<◌, List, [], ◌∷◌, ◌++◌, length, map, take, Option, Some, None, Result, Ok, Err, MatchResult}
+use Rattle.std.specs.Prelude.{ℕ, ◌≡◌, ◌≤◌, ◌<◌, List, [], ◌∷◌, ◌++◌, length, map, take, Option, Result, Ok, Err, MatchResult}
 use Rattle.std.specs.Io.KnownBytes.{Consumes, IsAtEnd, Keeps}
 use Rattle.cobs_live.specs.declared.input.AnyInput.{AnyInput}
-use Rattle.cobs_live.specs.declared.input.Came.{Came}
-use Rattle.cobs_live.specs.declared.input.Came.TheVariants.{Bytes, HungUp}
 
 -- a read: the bytes in the output's buffer when the read began; the bytes that had been written to the output by then,
--- if they are known; and the result. If the line may hang up, the result lists each byte as `Some`, and a hang-up as
--- `None`. The result of a failed read is empty.
+-- if they are known; and the bytes that the read returned. A failed read returned no bytes.
 pub record Read (A : Type 0) : Type 0 where
   pub back : List ℕ
   pub written : Option (List ℕ)
   pub came : List A
 
--- the result of a read: the bytes that it returned, or a hang-up
-abbrev pub given : {E : Type 0} → Result Came E → List ℕ → List (Option ℕ)
-given (Ok (Bytes n)) chunk = map Some (take n chunk)
-given (Ok HungUp) chunk = None ∷ []
+-- the bytes that a read returned
+abbrev pub given : {E : Type 0} → Result ℕ E → List ℕ → List ℕ
+given (Ok n) chunk = take n chunk
 given (Err error) chunk = []
 
 -- the effect of a read on the unread bytes of an input, if they are known: the read returns the first of these bytes
--- and removes them. A read returns no bytes only at the end of the input, or if `chunk` is empty. An input whose bytes
--- are known doesn't hang up.
-abbrev pub Takes : (from to : Option (List ℕ)) → Came → List ℕ → Type 0
-Takes from to (Bytes n) chunk = (n ≤ length chunk) × Consumes from to (take n chunk) × (n ≡ 0 → 0 < length chunk → IsAtEnd to)
-Takes from to HungUp chunk = (from ≡ None) × (to ≡ None)
+-- and removes them. A read returns no bytes only at the end of the input, or if `chunk` is empty.
+abbrev pub Takes : (from to : Option (List ℕ)) → ℕ → List ℕ → Type 0
+Takes from to n chunk = (n ≤ length chunk) × Consumes from to (take n chunk) × (n ≡ 0 → 0 < length chunk → IsAtEnd to)
 
 -- the effect of a read with this result (`Takes`); a read that failed removes nothing
-abbrev pub ReadTakes : {E : Type 0} → (from to : Option (List ℕ)) → Result Came E → List ℕ → Type 0
-ReadTakes from to result chunk = MatchResult result (λ came. Takes from to came chunk) (λ _. Keeps from to)
-
--- the result is bytes; if the unread bytes of the input are known, the result is the first of them
-pub record GivesBytes (from to : Option (List ℕ)) (came : List (Option ℕ)) : Type 0 where
-  pub bytes : List ℕ
-  pub are : came ≡ map Some bytes
-  pub taken : Consumes from to bytes
+abbrev pub ReadTakes : {E : Type 0} → (from to : Option (List ℕ)) → Result ℕ E → List ℕ → Type 0
+ReadTakes from to result chunk = MatchResult result (λ n. Takes from to n chunk) (λ _. Keeps from to)
 
 -- the elements of all lists, one list after the other
 abbrev pub joined : {A : Type 0} → List (List A) → List A

@@ -1,17 +1,16 @@
 -- The text that is shown for a stream.
-use Rattle.std.specs.Prelude.{ℕ, ◌+◌, ◌==◌, ◌&&◌, nat_le, Bool, true, false, not, List, [], ◌∷◌, ◌++◌, length, codes, if◌then◌else◌}
+use Rattle.std.specs.Prelude.{ℕ, ◌+◌, ◌==◌, ◌&&◌, Bool, true, false, not, List, [], ◌∷◌, ◌++◌, length, codes, if◌then◌else◌}
 use Rattle.std.specs.Fmt.{decimal}
-use Rattle.std.specs.List.{list_all, starts_with}
+use Rattle.std.specs.List.{list_all}
 use Rattle.std.specs.Str.{chars}
 use Rattle.std.specs.Str.Lossy.{utf8_valid_len}
 use Rattle.cobs_live.specs.Escaped.{is_hidden}
-use Rattle.cobs.specs.Stream.{Outcome, is_nonempty, stream_outcomes, unended}
 use Rattle.cobs_lines.specs.Lines.{spaced_digits}
 use Rattle.cobs_live.specs.Counted.{counted}
 use Rattle.cobs_live.specs.Dump.{dump}
 use Rattle.cobs_live.specs.Json.{json}
 use Rattle.cobs_live.specs.Capture.{record_head}
-use Rattle.cobs_live.specs.Seen.{Ended, Seen, all_ended, heading, seen_piece}
+use Rattle.cobs_live.specs.Seen.{Ended, Seen, heading, seen_piece}
 use Rattle.cobs_live.specs.Timed.{stamped}
 use Rattle.cobs_live.specs.declared.clock.Moment.{Moment}
 use Rattle.cobs_live.specs.declared.clock.Stamp.{Stamp}
@@ -21,7 +20,7 @@ use Rattle.cobs_live.specs.declared.seen.Kind.TheVariants.{Message, Broken, TooL
 use Rattle.cobs_live.specs.declared.shown.Filter.{Filter}
 use Rattle.cobs_live.specs.declared.shown.View.{View}
 use Rattle.cobs_live.specs.declared.shown.Style.{Style}
-use Rattle.cobs_live.specs.declared.shown.Style.TheVariants.{Hex, Text, Raw, Hexdump, Json, Bytes, Pcap}
+use Rattle.cobs_live.specs.declared.shown.Style.TheVariants.{Hex, Text, Raw, Hexdump, Json, Pcap}
 use Rattle.cobs_live.specs.declared.tally.Tally.{Tally}
 
 -- whether the bytes are UTF-8 without hidden characters
@@ -46,15 +45,14 @@ text_line color seen = heading color seen ++ (if is_plain seen.bytes then spaced
 abbrev pub dump_lines : (color : Bool) → Seen → List ℕ
 dump_lines color seen = heading color seen ++ codes "\n" ++ dump seen.bytes
 
--- the bytes that are written for a message in a style that shows only messages: the message (`Bytes`), the message and
--- a newline (`Raw`), or a record of a capture (`Pcap`). `styled` doesn't use the rows of the other styles.
+-- the bytes that are written for a message in a style that shows only messages: the message and a newline (`Raw`), or a
+-- record of a capture (`Pcap`). `styled` doesn't use the rows of the other styles.
 abbrev pub alone : Style → ℕ → List ℕ → List ℕ
 alone Hex time bytes = bytes
 alone Text time bytes = bytes
 alone Raw time bytes = bytes ++ codes "\n"
 alone Hexdump time bytes = bytes
 alone Json time bytes = bytes
-alone Bytes time bytes = bytes
 alone Pcap time bytes = record_head time (length bytes) ++ bytes
 
 -- the text of a piece in a style that shows only messages: nothing if the piece is no message
@@ -71,7 +69,6 @@ styled Text color number stamp times seen = text_line color seen
 styled Raw color number stamp times seen = of_message seen.kind (alone Raw times.next.millis seen.bytes)
 styled Hexdump color number stamp times seen = dump_lines color seen
 styled Json color number stamp times seen = json number stamp times seen
-styled Bytes color number stamp times seen = of_message seen.kind (alone Bytes times.next.millis seen.bytes)
 styled Pcap color number stamp times seen = of_message seen.kind (alone Pcap times.next.millis seen.bytes)
 
 -- the time before the line of a piece. It is empty for a JSON object, which contains the time itself, and for the
@@ -82,7 +79,6 @@ in_front Text stamp times = stamped stamp times
 in_front Raw stamp times = []
 in_front Hexdump stamp times = stamped stamp times
 in_front Json stamp times = []
-in_front Bytes stamp times = []
 in_front Pcap stamp times = []
 
 -- the number of a piece and a space, before its line, or nothing if pieces are shown without numbers
@@ -91,19 +87,15 @@ numbered true number = decimal number ++ codes " "
 numbered false number = []
 
 -- whether a filter lets the pieces of a kind through
-abbrev pub has_kind : Filter → Kind → Bool
-has_kind filter Message = filter.messages
-has_kind filter Broken = filter.broken
-has_kind filter TooLong = filter.too_long
-has_kind filter BadCrc = filter.bad_crc
-
--- whether a filter lets a piece through: by its kind, its length and its first bytes
-abbrev pub passes : Filter → Seen → Bool
-passes filter seen = has_kind filter seen.kind && (nat_le filter.min seen.len && (nat_le seen.len filter.max && starts_with (λ a b. a == b) seen.bytes filter.prefix.items))
+abbrev pub passes : Filter → Kind → Bool
+passes filter Message = filter.messages
+passes filter Broken = filter.broken
+passes filter TooLong = filter.too_long
+passes filter BadCrc = filter.bad_crc
 
 -- the text of a piece with this number and these times in a view
 abbrev pub in_view : View → ℕ → Times → Seen → List ℕ
-in_view view number times seen = if passes view.filter seen then in_front view.style view.stamp times ++ numbered view.number number ++ styled view.style view.color number view.stamp times seen else []
+in_view view number times seen = if passes view.filter seen.kind then in_front view.style view.stamp times ++ numbered view.number number ++ styled view.style view.color number view.stamp times seen else []
 
 -- THE TEXT OF A PIECE that follows `index` other pieces. Pieces are numbered from 1 on, and each piece has a time.
 abbrev pub shown : View → (ℕ → Moment) → ℕ → Ended → List ℕ
@@ -121,38 +113,12 @@ unfinished_in Text = codes "unfinished\n"
 unfinished_in Raw = []
 unfinished_in Hexdump = codes "unfinished\n"
 unfinished_in Json = codes "{\"kind\":\"unfinished\"}\n"
-unfinished_in Bytes = []
 unfinished_in Pcap = []
 
 -- the text after a stream that has ended. If a piece has begun, and the filter lets unfinished pieces through, this is
 -- the text that says so in the style; otherwise it is empty.
 abbrev pub shown_end : View → Bool → List ℕ
 shown_end view begun = if begun && view.filter.unfinished then unfinished_in view.style else []
-
--- the text that says that a line hung up, by style; it is empty in the styles that show only messages
-abbrev pub hung_up_in : Style → List ℕ
-hung_up_in Hex = codes "hung up\n"
-hung_up_in Text = codes "hung up\n"
-hung_up_in Raw = []
-hung_up_in Hexdump = codes "hung up\n"
-hung_up_in Json = codes "{\"kind\":\"hung-up\"}\n"
-hung_up_in Bytes = []
-hung_up_in Pcap = []
-
--- the text after the stream of a line that hung up. It begins with the text of `shown_end`, because the hang-up doesn't
--- end a piece that has begun. Then it says that the line hung up, if the filter lets unfinished pieces through.
-abbrev pub shown_hang_up : View → Bool → List ℕ
-shown_hang_up view begun = shown_end view begun ++ (if view.filter.unfinished then hung_up_in view.style else [])
-
--- the outcomes of the pieces that have ended in streams, in a buffer of n bytes
-abbrev pub outcomes_of : List (List ℕ) → ℕ → List Outcome
-outcomes_of [] n = []
-outcomes_of (t ∷ ts) n = stream_outcomes t n ++ outcomes_of ts n
-
--- the text of the streams of lines that hung up; these streams follow `index` other pieces
-abbrev pub shown_gone : View → (ℕ → Moment) → (n index : ℕ) → List (List ℕ) → List ℕ
-shown_gone view times n index [] = []
-shown_gone view times n index (t ∷ ts) = shown_from view times index (all_ended t n) ++ (shown_hang_up view (is_nonempty (unended t)) ++ shown_gone view times n (index + length (stream_outcomes t n)) ts)
 
 -- the text of the counts; if messages should end with checksums, the text also says how many checksums were wrong
 abbrev pub tally_text : Tally → List ℕ

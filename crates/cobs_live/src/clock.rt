@@ -89,7 +89,7 @@ pub struct Timer<'a, C> {
     start: Instant,
 
     /// The time at which the timer was made: 0, or the number of milliseconds since 1970.
-    pub base: u64,
+    base: u64,
 }
 
 impl<'a, C: Clock + Drop> Timer<'a, C> {

@@ -17,7 +17,6 @@ use crate::clock::{Stamp, Times};
 use crate::escape::{is_hidden, visible_run};
 use crate::seen::{Kind, Sight};
 use crate::shown::{Style, View};
-use cobs_bytes::window::{WINDOW, copy_window};
 use cobs_lines::fill_digits;
 use itoa::Buffer;
 use std::io::{self, Write};
@@ -109,7 +108,7 @@ impl Composed {
         match view.style {
             Style::Hex => self.keep_hex(view, piece),
             Style::Raw => self.keep_raw(view, piece),
-            Style::Text | Style::Hexdump | Style::Json | Style::Bytes | Style::Pcap => false,
+            Style::Text | Style::Hexdump | Style::Json | Style::Pcap => false,
         }
     }
 
@@ -127,7 +126,7 @@ impl Composed {
         if ROOM < self.len || ROOM - self.len < LINE + 2 * piece.bytes.len() {
             return false;
         }
-        if view.filter.passes(piece) {
+        if view.filter.passes(piece.kind) {
             self.append_hex(piece);
         }
         true
@@ -148,7 +147,7 @@ impl Composed {
         if ROOM < self.len || ROOM - self.len <= piece.bytes.len() {
             return false;
         }
-        if view.filter.passes(piece) {
+        if view.filter.passes(piece.kind) {
             self.append(piece.bytes);
             self.append(b"\n");
         }
@@ -171,7 +170,7 @@ impl Composed {
             return false;
         }
         self.len = 0;
-        if !view.filter.passes(piece) {
+        if !view.filter.passes(piece.kind) {
             return true;
         }
         self.put_message(view.style, number, piece).is_ok()
@@ -189,9 +188,7 @@ impl Composed {
     {
         match style {
             Style::Json => self.put_json(number, piece),
-            Style::Hex | Style::Text | Style::Raw | Style::Hexdump | Style::Bytes | Style::Pcap => {
-                Err(Full)
-            }
+            Style::Hex | Style::Text | Style::Raw | Style::Hexdump | Style::Pcap => Err(Full),
         }
     }
 
@@ -385,8 +382,7 @@ impl Composed {
         Ok(())
     }
 
-    /// Adds bytes. The caller makes sure that the bytes fit. If there are 1 to `WINDOW` bytes, they are copied in
-    /// vectors, without a call.
+    /// Adds bytes. The caller makes sure that the bytes fit.
     #[inline(always)]
     fn append(&mut self, bytes: &[u8])
         requires room { self.old.len + length bytes.now ≤ 2048 }
@@ -395,11 +391,7 @@ impl Composed {
     {
         let at = self.len;
         let end = at + bytes.len();
-        if bytes.is_empty() || WINDOW < bytes.len() {
-            self.bytes[at..end].copy_from_slice(bytes);
-        } else {
-            copy_window(bytes, &mut self.bytes, at);
-        }
+        self.bytes[at..end].copy_from_slice(bytes);
         self.len = end;
     }
 }

@@ -10,16 +10,6 @@ ghost use Rattle.cobs_live.specs.Reads.{Read as ReadEvent, ReadTakes, given};
 
 use std::io::{self, BufRead, BufWriter, Read, Write};
 
-/// The result of a read.
-#[derive(Debug, PartialEq, Eq, Clone, Copy)]
-pub enum Came {
-    /// This many bytes were read, or 0 at the end of the input.
-    Bytes(usize),
-
-    /// The line hung up. Later reads return the bytes of the line's next connection.
-    HungUp,
-}
-
 /// An input whose reads take the output as an extra argument.
 ///
 /// Contracts describe an input by the relation `step`. It relates the state of the input before a read, the read
@@ -30,10 +20,10 @@ pub trait LiveInput<W: Write + Drop> {
     ghost remaining: { Self → Option (List ℕ) };
 
     /// `step before read after` holds if `read` may change the input from the state `before` to the state `after`.
-    ghost step: { Self → ReadEvent (Option ℕ) → Self → Type 0 };
+    ghost step: { Self → ReadEvent ℕ → Self → Type 0 };
 
-    /// Reads once into `chunk`, as `Read::read` does, or returns `HungUp` if the line hung up.
-    fn read_beside(&mut self, output: &BufWriter<W>, chunk: &mut [u8]) -> io::Result<Came>
+    /// Reads once into `chunk`, as `Read::read` does.
+    fn read_beside(&mut self, output: &BufWriter<W>, chunk: &mut [u8]) -> io::Result<usize>
         ensures len { length chunk.new ≡ length chunk.old }
         ensures bytes { ReadTakes (remaining self.old) (remaining self.new) result chunk.new }
         ensures step { step self.old (record {
@@ -70,7 +60,7 @@ pub trait LiveLines<W: Write + Drop> {
         }) self.new };
 }
 
-/// An input over any reader. It never hangs up, and doesn't use the output that is passed to its methods.
+/// An input over any reader. It doesn't use the output that is passed to its methods.
 #[derive(Drop)]
 pub struct AnyInput<R> {
     reader: R,
@@ -89,17 +79,15 @@ impl<R> AnyInput<R> {
 }
 
 impl<R: Read, W: Write + Drop> LiveInput<W> for AnyInput<R> {
-    ghost use Rattle.cobs_live.specs.Reads.{GivesBytes, reader_of};
+    ghost use Rattle.std.specs.Io.KnownBytes.{Consumes};
+    ghost use Rattle.cobs_live.specs.Reads.{reader_of};
 
     ghost remaining = { λ input. R.remaining (reader_of input) };
 
-    ghost step = { λ from read to. GivesBytes (R.remaining (reader_of from)) (R.remaining (reader_of to)) read.came };
+    ghost step = { λ from read to. Consumes (R.remaining (reader_of from)) (R.remaining (reader_of to)) read.came };
 
-    fn read_beside(&mut self, _output: &BufWriter<W>, chunk: &mut [u8]) -> io::Result<Came> {
-        match self.reader.read(chunk) {
-            Ok(count) => Ok(Came::Bytes(count)),
-            Err(error) => Err(error),
-        }
+    fn read_beside(&mut self, _output: &BufWriter<W>, chunk: &mut [u8]) -> io::Result<usize> {
+        self.reader.read(chunk)
     }
 }
 

@@ -32,7 +32,7 @@ pub fn write_line<W: Write>(
         Style::Text => write_text(output, view.color, piece),
         Style::Hexdump => write_dumped(output, view.color, piece),
         Style::Json => write_json(output, number, view.stamp, times, piece),
-        Style::Raw | Style::Bytes | Style::Pcap => match piece.kind {
+        Style::Raw | Style::Pcap => match piece.kind {
             Kind::Message => write_alone(output, view.style, times.next.millis, piece.bytes),
             Kind::Broken | Kind::TooLong | Kind::BadCrc => Ok(()),
         },
@@ -169,9 +169,7 @@ fn write_alone<W: Write>(output: &mut W, style: Style, time: u64, bytes: &[u8]) 
             write_record_head(output, time, bytes.len())?;
             output.write_all(bytes)
         }
-        Style::Hex | Style::Text | Style::Hexdump | Style::Json | Style::Bytes => {
-            output.write_all(bytes)
-        }
+        Style::Hex | Style::Text | Style::Hexdump | Style::Json => output.write_all(bytes),
     }
 }
 

@@ -74,11 +74,21 @@ pub fn run_send<S: LiveLines<W>, W: Write + Drop, E: Write>(
         if !send_text(alloc, settings, without_newline(&line), output)? {
             all_sent = false;
             // A failure to write the report isn't a fault.
-            let _ = writeln!(errors, "cobs_watch: line {number}: not hexadecimal digits");
+            let _ = writeln!(errors, "cobs_watch: line {number}: {}", fault_of(&line));
         }
     }
     // After `usize::MAX - 1` lines, the call ends as if a read had failed. No input has that many lines.
     Err(WatchFault::ReadFailed)
+}
+
+/// Returns what is wrong with a line that can't be read as the hexadecimal digits of a message.
+fn fault_of(line: &[u8]) -> &'static str {
+    for byte in without_newline(line) {
+        if is_digit(*byte) && !byte.is_ascii_hexdigit() {
+            return "not hexadecimal digits";
+        }
+    }
+    "an odd number of hexadecimal digits"
 }
 
 /// Returns the line without the newline at its end, if it has one.

@@ -1,5 +1,5 @@
 //! Shows a stream as its bytes arrive.
-ghost use Rattle.std.specs.Prelude.{◌≡◌, ◌≢◌, ◌<◌, ◌≤◌, ◌↔◌, ℕ, List, [], length, take, OnOk, IfOk, IfErr, IfSome, IsTrue, Option, Ok, Err, false};
+ghost use Rattle.std.specs.Prelude.{◌≡◌, ◌≢◌, ◌<◌, ◌≤◌, ◌↔◌, ℕ, List, [], length, take, OnOk, IfOk, IfErr, IsTrue, Option, Ok, Err, false};
 ghost use Rattle.std.specs.Io.KnownBytes.{Appends, Keeps};
 ghost use Rattle.std.specs.Io.Buffered.{writer_buffer, writer_inner};
 ghost use Rattle.cobs.specs.Feed.{DecoderAfter, Idle};
@@ -20,42 +20,29 @@ ghost use Rattle.cobs_live.specs.Watched.{HasShown, IsFlushed, begun, skips_on};
 use crate::clock::{Timer, Times};
 use crate::composed::Composed;
 use crate::fault::WatchFault;
-use crate::input::{Came, LiveInput};
+use crate::input::LiveInput;
 use crate::seen::Sight;
-use crate::shown::{Settings, View, show_end, show_hang_up, show_piece, sight_of, with_part};
-use crate::tally::{Counting, Tally};
-use cobs::UnbufferedDecoder;
+use crate::shown::{Settings, View, show_end, show_piece, sight_of, with_part};
+use crate::tally::Tally;
 use cobs::laws::{law_6, law_9, law_12};
-use cobs_bytes::lanes::xor_bytes;
-use cobs_bytes::window::first_zero;
+use cobs::{UnbufferedDecoder, xor_bytes};
 use std::alloc::{AllocError, Global};
 use std::io::{BufWriter, ErrorKind, Write};
 use std::rt::Clock;
-
-/// The first search for the zero that ends a short frame looks at this many bytes, which fill one vector. The second
-/// search looks at up to [`NEAR`] bytes.
-const NEAREST: usize = 16;
-
-/// The second search for the zero that ends a short frame looks at up to this many bytes. If none of them is a zero,
-/// all remaining bytes of the chunk are passed to the decoder.
-const NEAR: usize = 64;
 
 /// The greatest number of bytes of one read: 64 KiB. Even if a read returns fewer bytes, the pieces that end in them
 /// are shown before more bytes are read.
 pub const CHUNK_LEN: usize = 65_536;
 
 /// Shows each piece of the input when the piece's sentinel arrives. At the end of the input, shows `unfinished` if a
-/// piece has begun but not ended. A hang-up of the line doesn't end a piece. After a hang-up, `run_show` shows
-/// `unfinished` if a piece has begun but not ended. Then it shows `hung up`, and skips all bytes up to the next
-/// sentinel.
+/// piece has begun but not ended.
 ///
 /// `run_show` calls [`Watch::show_next`] repeatedly. Each call reads once, shows the pieces that ended, and flushes the
 /// output. So before the program waits for more bytes, it has written all pieces that have ended. Memory is allocated
 /// only before the first read: for a message of the greatest length, and for a chunk of the input.
 ///
-/// If `counting.at_end` is set, the counts of pieces and bytes are written to `errors` at the end, even after a fault.
-/// `counting.every` is an interval in milliseconds, or `None`. If it is an interval, the counts so far are also written
-/// while bytes arrive, at most once per interval. A failure to write the counts isn't a fault.
+/// If `count` is set, the counts of pieces and bytes are written to `errors` at the end, even after a fault. A failure
+/// to write the counts isn't a fault.
 ///
 /// # Errors
 /// - `ReadFailed`: a read failed, for example because a serial line was unplugged. All pieces that had ended before
@@ -66,7 +53,7 @@ pub const CHUNK_LEN: usize = 65_536;
 pub fn run_show<C: Clock + Drop, S: LiveInput<W>, W: Write + Drop, E: Write>(
     alloc: Global,
     settings: &Settings,
-    counting: Counting,
+    count: bool,
     timer: &Timer<'_, C>,
     input: &mut S,
     output: &mut BufWriter<W>,
@@ -82,20 +69,14 @@ pub fn run_show<C: Clock + Drop, S: LiveInput<W>, W: Write + Drop, E: Write>(
     law_9(); // A stream may be cut anywhere
     let mut watch = Watch::new(alloc, settings)?;
     let mut chunk = vec![in alloc; 0; CHUNK_LEN]?;
-    let mut counted = timer.base;
     // The number of reads is limited, because every function is proved to end.
     'by_read: for _read in 0..usize::MAX {
         let next = watch.show_next(timer, &mut chunk, input, output);
-        if counting.at_end && next != Ok(true) {
+        if count && next != Ok(true) {
             let _ = writeln!(errors, "{}", watch.tally);
         }
         if !next? {
             return Ok(watch.tally);
-        }
-        let now = watch.clock.next.millis;
-        if counting.is_due(now.saturating_sub(counted)) {
-            counted = now;
-            let _ = writeln!(errors, "{}", watch.tally);
         }
     }
     watch.end(output)?;
@@ -121,7 +102,7 @@ pub struct Watch<'a> {
 }
 
 impl<'a> Watch<'a> {
-    ghost use Rattle.cobs_live.specs.Live.{BeginsAnew, HasShownSoFar, HoldsText, IsLiveSoFar, ShowsEnd, ShowsHangUp, ShowsNext};
+    ghost use Rattle.cobs_live.specs.Live.{HasShownSoFar, HoldsText, IsLiveSoFar, ShowsEnd, ShowsNext};
     ghost use Rattle.cobs_live.specs.Reads.{IsLive};
 
     /// Makes a watch that has shown nothing yet.
@@ -146,8 +127,8 @@ impl<'a> Watch<'a> {
     }
 
     /// Reads once into `chunk`, shows each piece that ends in the bytes of this read, and flushes the output. Returns
-    /// whether the input continues. At the end of the input, after a failed read and after a hang-up, shows
-    /// `unfinished` if a piece has begun but not ended. Then, if the line hung up, shows `hung up`.
+    /// whether the input continues. At the end of the input, and after a failed read, shows `unfinished` if a piece has
+    /// begun but not ended.
     ///
     /// Nothing is written before the read. The output has been flushed when the read begins (clause `flushed`), so all
     /// pieces that have ended by then have been shown. An interrupted read is tried again.
@@ -187,16 +168,12 @@ impl<'a> Watch<'a> {
         ensures len { length chunk.new ≡ length chunk.old }
     {
         law_9(); // A stream may be cut anywhere
-        let came = match read_chunk(input, output, chunk) {
-            Ok(came) => came,
+        let count = match read_chunk(input, output, chunk) {
+            Ok(count) => count,
             Err(fault) => {
                 self.end(output)?;
                 return Err(fault);
             }
-        };
-        let Came::Bytes(count) = came else {
-            self.hang_up(output)?;
-            return Ok(true);
         };
         if count == 0 {
             self.end(output)?;
@@ -235,25 +212,6 @@ impl<'a> Watch<'a> {
         output.flush()?;
         Ok(())
     }
-
-    /// Shows `unfinished` if a piece has begun but not ended. Then shows `hung up`. The bytes of the next connection
-    /// are skipped up to its first sentinel, because the connection may begin in the middle of a frame.
-    fn hang_up<W: Write + Drop>(&mut self, output: &mut BufWriter<W>) -> Result<(), WatchFault>
-        requires flushed { writer_buffer output.old ≡ [] }
-        ensures shown { OnOk result (ShowsHangUp (phase_of self.old.decoder) self.old.settings.now.view
-            (W.contents (writer_inner output.old)) (W.contents (writer_inner output.new))) }
-        ensures anew { OnOk result (BeginsAnew self.old self.new) }
-        ensures flushed { IsFlushed result (writer_buffer output.new) }
-        ensures fault { IfErr result
-            (λ fault. (fault ≢ WatchFault.ReadFailed) × (fault ≢ WatchFault.OutOfMemory)) }
-    {
-        let unfinished = has_begun(&self.decoder);
-        show_hang_up(output, &self.settings.view, unfinished)?;
-        output.flush()?;
-        self.decoder.reset();
-        self.skipping = true;
-        Ok(())
-    }
 }
 
 /// Reads once into the chunk, and tries again if the read was interrupted. Every read of [`run_show`] is made by this
@@ -262,9 +220,9 @@ fn read_chunk<S: LiveInput<W>, W: Write + Drop>(
     input: &mut S,
     output: &BufWriter<W>,
     chunk: &mut [u8],
-) -> Result<Came, WatchFault>
+) -> Result<usize, WatchFault>
     requires flushed { writer_buffer output.now ≡ [] }
-    ensures takes { IfOk result (λ came. Takes (S.remaining input.old) (S.remaining input.new) came chunk.new) }
+    ensures takes { IfOk result (λ n. Takes (S.remaining input.old) (S.remaining input.new) n chunk.new) }
     ensures failed { IfErr result (λ fault. (fault ≡ WatchFault.ReadFailed)
         × Keeps (S.remaining input.old) (S.remaining input.new)) }
     ensures once { ReadsOnce S.step input.old input.new (W.contents (writer_inner output.now))
@@ -273,7 +231,7 @@ fn read_chunk<S: LiveInput<W>, W: Write + Drop>(
 {
     'by_try: for _again in 0..usize::MAX {
         match input.read_beside(output, chunk) {
-            Ok(came) => return Ok(came),
+            Ok(count) => return Ok(count),
             Err(error) => {
                 if error.kind() != ErrorKind::Interrupted {
                     return Err(WatchFault::ReadFailed);
@@ -344,7 +302,7 @@ fn show_bytes<W: Write>(
     let mut composed = Composed::new();
     let mut at = 0;
     'by_part: while at < bytes.len() {
-        let part = front(&bytes[at..]);
+        let part = &bytes[at..];
         let Some((end, count)) = decoder.feed_piece(message, part) else {
             at += part.len();
             continue;
@@ -358,40 +316,6 @@ fn show_bytes<W: Write>(
     }
     composed.write_to(output)?;
     Ok(())
-}
-
-/// Returns the bytes to pass to the decoder in one call: the bytes up to and including the first zero if this zero is
-/// among the first [`NEAR`] bytes, and otherwise all bytes. So the decoder gets a short frame without the bytes after
-/// the frame, and decodes it with the code that is fastest for short frames.
-#[inline(always)]
-fn front(bytes: &[u8]) -> &[u8]
-    requires some { 0 < length bytes.now }
-    ensures some { 0 < length result.now }
-    ensures front { result.now ≡ take (length result.now) bytes.now }
-    ensures within { length result.now ≤ length bytes.now }
-{
-    if NEAREST <= bytes.len() {
-        let zero = first_zero(&bytes[..NEAREST]);
-        if zero < NEAREST {
-            return &bytes[..zero + 1];
-        }
-    }
-    if let Some(end) = end_within(bytes, NEAR) {
-        return &bytes[..end];
-    }
-    bytes
-}
-
-/// Looks for a zero among the first `most` bytes. Returns the index after the first such zero, or `None` if there is
-/// no zero among them.
-#[inline(always)]
-fn end_within(bytes: &[u8], most: usize) -> Option<usize>
-    requires few { most ≤ 64 }
-    ensures within { IfSome result (λ end. (0 < end) × (end ≤ length bytes.now)) }
-{
-    let near = bytes.len().min(most);
-    let zero = first_zero(&bytes[..near]);
-    if zero < near { Some(zero + 1) } else { None }
 }
 
 /// Shows a piece, with this number and these times. In some styles, the text of a short message is first composed in

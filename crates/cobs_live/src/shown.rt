@@ -6,7 +6,7 @@ ghost use Rattle.cobs_live.specs.Checksum.{with_sum};
 ghost use Rattle.cobs_live.specs.declared.checksum.Checksum.{Checksum};
 ghost use Rattle.cobs_live.specs.declared.seen.Kind.TheVariants.{Message};
 ghost use Rattle.cobs_live.specs.Seen.{held, seen_in, seen_message, seen_of, whole, with_part};
-ghost use Rattle.cobs_live.specs.Shown.{has_kind, hung_up_in, in_front, in_view, passes, shown_end, shown_hang_up};
+ghost use Rattle.cobs_live.specs.Shown.{in_front, in_view, passes, shown_end};
 
 use crate::checksum::Checksum;
 use crate::clock::{Stamp, Times};
@@ -35,9 +35,6 @@ pub enum Style {
     /// A JSON object for each piece, on its own line.
     Json,
 
-    /// The bytes of each message and nothing else. Other pieces aren't shown.
-    Bytes,
-
     /// A record of a libpcap capture for each message. Other pieces aren't shown.
     Pcap,
 }
@@ -57,17 +54,8 @@ pub struct Filter {
     /// Whether messages with a wrong checksum are shown.
     pub bad_crc: bool,
 
-    /// Whether `unfinished` and `hung up` are shown.
+    /// Whether `unfinished` is shown.
     pub unfinished: bool,
-
-    /// `min` and `max` are the least and the greatest number of decoded bytes that a shown piece may have. A piece that
-    /// is too long counts as having `usize::MAX` decoded bytes.
-    pub min: usize,
-    pub max: usize,
-
-    /// A piece is shown only if its bytes begin with this prefix. If [`View::partial`] isn't set, broken and too long
-    /// pieces count as having no bytes.
-    pub prefix: Vec<u8>,
 }
 
 /// Which pieces are shown, and how.
@@ -110,7 +98,7 @@ pub struct Settings {
     pub sentinel: u8,
 
     /// Whether all bytes up to the first sentinel are skipped. These bytes may be the rest of a frame that began before
-    /// the first read. After a hang-up, all bytes up to the next sentinel are always skipped.
+    /// the first read.
     pub skip_first: bool,
 }
 
@@ -190,21 +178,10 @@ pub fn with_part<'a>(partial: bool, piece: &Sight<'a>, buffer: &'a [u8]) -> Sigh
 }
 
 impl Filter {
-    /// Returns whether a piece is shown.
-    #[inline(always)]
-    pub(crate) fn passes(&self, piece: &Sight<'_>) -> bool
-        ensures passes { result ≡ passes self.now (seen_in piece.now) }
-    {
-        self.has_kind(piece.kind)
-            && self.min <= piece.len
-            && piece.len <= self.max
-            && (self.prefix.is_empty() || piece.bytes.starts_with(&self.prefix))
-    }
-
     /// Returns whether pieces of this kind are shown.
     #[inline(always)]
-    fn has_kind(&self, kind: Kind) -> bool
-        ensures kind { result ≡ has_kind self.now kind }
+    pub(crate) fn passes(&self, kind: Kind) -> bool
+        ensures passes { result ≡ passes self.now kind }
     {
         match kind {
             Kind::Message => self.messages,
@@ -226,7 +203,7 @@ pub fn show_piece<W: Write>(
     ensures shown { OnOk result (Appends (W.contents output.old) (W.contents output.new)
         (in_view view.now number times.now (seen_in piece.now))) }
 {
-    if !view.filter.passes(piece) {
+    if !view.filter.passes(piece.kind) {
         return Ok(());
     }
     write_time(output, view, times)?;
@@ -243,7 +220,7 @@ fn write_time<W: Write>(output: &mut W, view: &View, times: &Times) -> io::Resul
 {
     match view.style {
         Style::Hex | Style::Text | Style::Hexdump => times.write_stamp(output, view.stamp),
-        Style::Raw | Style::Json | Style::Bytes | Style::Pcap => Ok(()),
+        Style::Raw | Style::Json | Style::Pcap => Ok(()),
     }
 }
 
@@ -258,30 +235,6 @@ pub fn show_end<W: Write>(output: &mut W, view: &View, unfinished: bool) -> io::
     match view.style {
         Style::Hex | Style::Text | Style::Hexdump => output.write_all(b"unfinished\n"),
         Style::Json => output.write_all(b"{\"kind\":\"unfinished\"}\n"),
-        Style::Raw | Style::Bytes | Style::Pcap => Ok(()),
-    }
-}
-
-/// Shows that a serial line hung up. If a piece had begun but not ended, `unfinished` is shown first.
-pub fn show_hang_up<W: Write>(output: &mut W, view: &View, unfinished: bool) -> io::Result<()>
-    ensures shown { OnOk result (Appends (W.contents output.old) (W.contents output.new)
-        (shown_hang_up view.now unfinished)) }
-{
-    show_end(output, view, unfinished)?;
-    write_hung_up(output, view)
-}
-
-/// Writes the text that says that a serial line hung up, unless the filter hides this text.
-fn write_hung_up<W: Write>(output: &mut W, view: &View) -> io::Result<()>
-    ensures written { OnOk result (Appends (W.contents output.old) (W.contents output.new)
-        (if view.now.filter.unfinished then hung_up_in view.now.style else [])) }
-{
-    if !view.filter.unfinished {
-        return Ok(());
-    }
-    match view.style {
-        Style::Hex | Style::Text | Style::Hexdump => output.write_all(b"hung up\n"),
-        Style::Json => output.write_all(b"{\"kind\":\"hung-up\"}\n"),
-        Style::Raw | Style::Bytes | Style::Pcap => Ok(()),
+        Style::Raw | Style::Pcap => Ok(()),
     }
 }

@@ -24,33 +24,6 @@ pub struct Tally {
     pub checked: bool,
 }
 
-/// When the tally is written to standard error.
-#[derive(Debug, PartialEq, Eq, Clone, Copy)]
-pub struct Counting {
-    /// Whether the tally is written when the program ends: at the end of the input, or after a fault.
-    pub at_end: bool,
-
-    /// An interval in milliseconds, or `None`. If it is an interval, the tally is also written while bytes arrive, at
-    /// most once per interval.
-    pub every: Option<u64>,
-}
-
-impl Counting {
-    ghost use Rattle.std.specs.Prelude.{◌≡◌, ◌≤◌, ◌↔◌, IfSome, IsTrue, None, false};
-
-    /// Returns whether the tally should be written. `passed` is the number of milliseconds since the tally was last
-    /// written, or since the start if it hasn't been written.
-    pub fn is_due(&self, passed: u64) -> bool
-        ensures unasked { self.now.every ≡ None → result ≡ false }
-        ensures due { IfSome self.now.every (λ every. IsTrue result ↔ every ≤ passed) }
-    {
-        match self.every {
-            Some(every) => every <= passed,
-            None => false,
-        }
-    }
-}
-
 impl Tally {
     ghost use Rattle.std.specs.Prelude.{List, ℕ, [], ◌∷◌, ◌++◌, ◌+◌, ◌≡◌, Option, is_some};
 

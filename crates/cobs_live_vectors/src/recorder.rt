@@ -8,11 +8,11 @@ ghost use Rattle.cobs_live_vectors.specs.Recorded.{IsRightAtLast, len_of};
 
 use cobs_live::clock::Timer;
 use cobs_live::fault::WatchFault;
-use cobs_live::input::{Came, LiveInput, LiveLines};
+use cobs_live::input::{LiveInput, LiveLines};
 use cobs_live::send::{self, run_send};
 use cobs_live::show::run_show;
 use cobs_live::shown::Settings;
-use cobs_live::tally::{Counting, Tally};
+use cobs_live::tally::Tally;
 use std::alloc::Global;
 use std::io::{self, BufRead, BufWriter, Read};
 use std::rt::Clock;
@@ -34,12 +34,9 @@ impl LiveInput<Vec<u8>> for Recorder<'_> {
     // After a read, `written` is the number of bytes that the output held when this read began.
     ghost step = { λ from read to. to.written ≡ len_of read.written };
 
-    fn read_beside(&mut self, output: &BufWriter<Vec<u8>>, chunk: &mut [u8]) -> io::Result<Came> {
+    fn read_beside(&mut self, output: &BufWriter<Vec<u8>>, chunk: &mut [u8]) -> io::Result<usize> {
         self.written = output.get_ref().len();
-        match self.bytes.read(chunk) {
-            Ok(count) => Ok(Came::Bytes(count)),
-            Err(error) => Err(error),
-        }
+        self.bytes.read(chunk)
     }
 }
 
@@ -78,10 +75,7 @@ pub fn show_recorded<C: Clock + Drop>(
     run_show(
         alloc,
         settings,
-        Counting {
-            at_end: false,
-            every: None,
-        },
+        false,
         timer,
         input,
         output,

@@ -11,7 +11,7 @@ use cobs_live::crc::Crc;
 use cobs_live::input::AnyInput;
 use cobs_live::show::run_show;
 use cobs_live::shown::{Filter, Settings, Style, View};
-use cobs_live::tally::{Counting, Tally};
+use cobs_live::tally::Tally;
 use jiff_core::Offset;
 use jiff_tz::TimeZone;
 use std::alloc::Global;
@@ -26,7 +26,7 @@ const STREAM: &[u8] = b"\x00\x03\x07\x08\x00\x05\x01\x00\x06\x01\x02\x03\x04\x05
 
 /// The text that is shown for [`STREAM`], by style. In a capture each message has the time of the one read that
 /// returned the stream, 250 ms after the start.
-const SHOWN: [(Style, &[u8]); 7] = [
+const SHOWN: [(Style, &[u8]); 6] = [
     (
         Style::Hex,
         b"message 2 0708\nbroken 1\ntoo long\nmessage 2 6869\nunfinished\n",
@@ -36,7 +36,6 @@ const SHOWN: [(Style, &[u8]); 7] = [
         b"message 2 0708\nbroken 1\ntoo long\nmessage 2 hi\nunfinished\n",
     ),
     (Style::Raw, b"\x07\x08\nhi\n"),
-    (Style::Bytes, b"\x07\x08hi"),
     (
         Style::Pcap,
         b"\0\0\0\0\x90\xD0\x03\0\x02\0\0\0\x02\0\0\0\x07\x08\
@@ -159,11 +158,8 @@ const SENT: [(bool, &[u8], &[u8], bool); 3] = [
     (true, b"6\n", b"", false),
 ];
 
-/// The counts are never written.
-const SILENT: Counting = Counting {
-    at_end: false,
-    every: None,
-};
+/// The counts aren't written.
+const SILENT: bool = false;
 
 /// Returns one byte per read. The read with the number `failing`, counted from 0, fails.
 #[derive(Drop)]
@@ -236,7 +232,7 @@ fn reader(bytes: &[u8], failing: usize, fault: ErrorKind) -> ByteReader<'_> {
 }
 
 /// Returns settings that show each piece in a style, with a buffer of four bytes.
-fn settings(alloc: Global, style: Style, stamp: Stamp) -> Settings {
+fn settings(style: Style, stamp: Stamp) -> Settings {
     Settings {
         view: View {
             style,
@@ -249,9 +245,6 @@ fn settings(alloc: Global, style: Style, stamp: Stamp) -> Settings {
                 too_long: true,
                 bad_crc: true,
                 unfinished: true,
-                min: 0,
-                max: usize::MAX,
-                prefix: Vec::new(alloc),
             },
             checksum: None,
             partial: false,
@@ -283,7 +276,7 @@ fn a_stream_is_shown_in_each_style(rt: HostRuntime) -> Result<(), Fail> {
         let mut output = BufWriter::new(alloc, Vec::new(alloc))?;
         let tally = run_show(
             alloc,
-            &settings(alloc, style, Stamp::Untimed),
+            &settings(style, Stamp::Untimed),
             SILENT,
             &timer(Stamp::Untimed)?,
             &mut input,
@@ -311,7 +304,7 @@ fn a_stream_is_shown_in_each_style(rt: HostRuntime) -> Result<(), Fail> {
 fn each_kind_has_its_colour(rt: HostRuntime) -> Result<(), Fail> {
     let alloc = rt.alloc();
     for (style, shown) in COLORED {
-        let mut how = settings(alloc, style, Stamp::Untimed);
+        let mut how = settings(style, Stamp::Untimed);
         how.view.color = true;
         let mut input = AnyInput::new(STREAM);
         let mut output = BufWriter::new(alloc, Vec::new(alloc))?;
@@ -331,26 +324,17 @@ fn each_kind_has_its_colour(rt: HostRuntime) -> Result<(), Fail> {
 }
 
 #[test]
-fn counts_are_written_after_each_interval(rt: HostRuntime) -> Result<(), Fail> {
+fn counts_are_written_at_the_end(rt: HostRuntime) -> Result<(), Fail> {
     let alloc = rt.alloc();
-    let settings = settings(alloc, Style::Hex, Stamp::Untimed);
-    // Each read returns one byte, 250 ms after the preceding read. So the first second ends with the fourth read, and
-    // the next second with the eighth.
-    let mut input = AnyInput::new(reader(
-        b"\x02a\x00\x03b\x00\x02c\x00",
-        usize::MAX,
-        ErrorKind::Other,
-    ));
+    let settings = settings(Style::Hex, Stamp::Untimed);
+    let mut input = AnyInput::new(b"\x02a\x00\x03b\x00\x02c\x00".as_slice());
     let mut output = BufWriter::new(alloc, Vec::new(alloc))?;
     let mut errors = Vec::new(alloc);
     let done = run_show(
         alloc,
         &settings,
-        Counting {
-            at_end: true,
-            every: Some(1_000),
-        },
-        &timer(Stamp::Date)?,
+        true,
+        &timer(Stamp::Untimed)?,
         &mut input,
         &mut output,
         &mut errors,
@@ -358,9 +342,7 @@ fn counts_are_written_after_each_interval(rt: HostRuntime) -> Result<(), Fail> {
     assert!(rt; done.is_ok());
     assert_eq!(rt;
         errors.as_slice(),
-        b"messages 1, broken 0, too long 0, bytes 4\nmessages 1, broken 1, too long 0, bytes 8\n\
-        messages 2, broken 1, too long 0, bytes 9\n"
-            .as_slice(),
+        b"messages 2, broken 1, too long 0, bytes 9\n".as_slice(),
     );
     Ok(())
 }
@@ -371,7 +353,7 @@ fn each_piece_has_its_time(rt: HostRuntime) -> Result<(), Fail> {
     for (style, stamp, shown) in TIMED {
         let mut input = AnyInput::new(reader(STREAM, usize::MAX, ErrorKind::Other));
         let mut output = BufWriter::new(alloc, Vec::new(alloc))?;
-        let settings = settings(alloc, style, stamp);
+        let settings = settings(style, stamp);
         let done = run_show(
             alloc,
             &settings,
@@ -390,7 +372,7 @@ fn each_piece_has_its_time(rt: HostRuntime) -> Result<(), Fail> {
 #[test]
 fn a_date_has_the_offset_of_its_zone(rt: HostRuntime) -> Result<(), Fail> {
     let alloc = rt.alloc();
-    let settings = settings(alloc, Style::Json, Stamp::Date);
+    let settings = settings(Style::Json, Stamp::Date);
     let mut input = AnyInput::new(reader(b"\x02a\x00", usize::MAX, ErrorKind::Other));
     let mut output = BufWriter::new(alloc, Vec::new(alloc))?;
     let newfoundland = TimeZone::Fixed(Offset { seconds: -12_600 });
@@ -416,7 +398,7 @@ fn a_date_has_the_offset_of_its_zone(rt: HostRuntime) -> Result<(), Fail> {
 #[test]
 fn a_right_checksum_is_stripped_and_a_wrong_one_named(rt: HostRuntime) -> Result<(), Fail> {
     let alloc = rt.alloc();
-    let mut how = settings(alloc, Style::Hex, Stamp::Untimed);
+    let mut how = settings(Style::Hex, Stamp::Untimed);
     how.view.checksum = Some(Checksum::new(Crc::Crc8.params(), false));
     // Three frames: the digits 1 to 3 with their checksum, the same digits with a wrong checksum, and a message that is
     // too short for a checksum.
@@ -445,7 +427,7 @@ fn a_right_checksum_is_stripped_and_a_wrong_one_named(rt: HostRuntime) -> Result
 fn what_was_decoded_of_other_pieces_is_marked(rt: HostRuntime) -> Result<(), Fail> {
     let alloc = rt.alloc();
     for (style, shown) in PARTIAL {
-        let mut how = settings(alloc, style, Stamp::Untimed);
+        let mut how = settings(style, Stamp::Untimed);
         how.view.partial = true;
         let mut input = AnyInput::new(b"\x05ab\x00\x06vwxyz\x00\x05\x00\x02c\x00".as_slice());
         let mut output = BufWriter::new(alloc, Vec::new(alloc))?;

@@ -4,29 +4,26 @@
 //! makes. So a clause that says too little for its users is noticed here. A call of a law does nothing when it runs,
 //! but the proof of the caller can use what the law states.
 ghost use Rattle.std.specs.Prelude.{◌≡◌, ◌≢◌, ◌≤◌, ◌<◌, ◌+◌, ◌^◌, ◌↔◌, ◌∷◌, ◌++◌, [], All, length, take, drop, slice_index, slice_set, List, ℕ, None, Ok, Some, option_to_list, IfOk, IfSome, IsSomeAnd, IsTrue};
-ghost use Rattle.cobs.specs.Decode.{first_output, head_result, in_place, in_place_report, len_through_piece, result_of_decode};
+ghost use Rattle.cobs.specs.Decode.{first_output, head_result, in_place, len_through_piece};
 ghost use Rattle.cobs.specs.Overwritten.{message_in, overwritten, written_at};
 ghost use Rattle.cobs.specs.Fields.Decoders.{borrowed_buffer, borrowed_phase, borrowed_slice, heapless_buffer, heapless_phase, owned_buffer, owned_phase};
 ghost use Rattle.cobs.specs.Fields.Report.{frame_size_of, parsed_size_of};
 ghost use Rattle.cobs.specs.Feed.{Idle, Overlong, PhaseAfter};
 ghost use Rattle.cobs.specs.Grammar.{HasNoZero, IsEncodedFrame, Reads};
 ghost use Rattle.cobs.specs.Headline.{IsPiece, PushesMessage};
-ghost use Rattle.cobs.specs.Length.{encoded_len, max_encoded_len};
+ghost use Rattle.cobs.specs.Length.{encoded_len, max_encoded_len, max_overhead};
 ghost use Rattle.cobs.specs.Sentinel.{IsFreeOf, xor_each};
 ghost use Rattle.cobs.specs.Messages.{AreFrames, messages_in};
-ghost use Rattle.cobs.specs.Piece.{last_part, missing};
 ghost use Rattle.cobs.specs.Stream.{first_piece, head};
 ghost use Rattle.cobs.specs.Table.{data_of, state_in};
 
 use cobs::laws::{law_2, law_4, law_12};
 use cobs::{
     CobsDecoder, CobsDecoderHeapless, CobsDecoderOwned, DecodeError, DecodeReport, DecodeResult,
-    DecoderState, DestBufTooSmallError, FrameKind, PushError, WriteBuffer, decode,
-    decode_blocks_each, decode_in_place_report, decode_piece, decode_short, decode_short_in_place,
+    DecoderState, DestBufTooSmallError, FrameKind, PushError, WriteBuffer, decode, decode_first,
     decode_with_sentinel, encode, encode_frames, encode_frames_room, encode_in_place,
     encode_including_sentinels, encode_vec, encode_vec_including_sentinels,
-    encode_vec_with_sentinel, encode_with_sentinel, kind_by_blocks, leading_zeros, len_to_zero,
-    try_encode_including_sentinels,
+    encode_vec_with_sentinel, encode_with_sentinel, frame_kind, try_encode_including_sentinels,
 };
 use std::alloc::{AllocError, Global};
 
@@ -53,93 +50,18 @@ pub fn reads_for(sentinel: u8, piece: &[u8], message: &[u8], buffer: &mut [u8]) 
     }
 }
 
-/// Decodes the source with [`decode_short`] if that call returns a result, and otherwise with [`decode`]. The result is
-/// always the result of [`decode`].
-pub fn decode_either(source: &[u8], dest: &mut [u8]) -> Result<DecodeReport, DecodeError>
-    ensures returned { result ≡ result_of_decode source.now (length dest.old) }
-    ensures buffer { dest.new ≡ overwritten dest.old (first_output source.now) }
-{
-    match decode_short(source, dest) {
-        Some(returned) => returned,
-        None => decode(source, dest),
-    }
-}
-
-/// Decodes the buffer with [`decode_short_in_place`] if that call returns a result, and otherwise with
-/// [`decode_in_place_report`]. The result is always the result of [`decode_in_place_report`].
-pub fn decode_either_in_place(buffer: &mut [u8]) -> Result<DecodeReport, DecodeError>
-    ensures returned { result ≡ in_place_report buffer.old }
-    ensures buffer { buffer.new ≡ in_place buffer.old }
-{
-    match decode_short_in_place(buffer) {
-        Some(report) => Ok(report),
-        None => decode_in_place_report(buffer),
-    }
-}
-
-/// Decodes a piece of 2 to 65 nonzero bytes, which may be broken. Returns true, because [`decode_short`] returns a
-/// result for each such piece if `dest` is at most one byte shorter than the piece.
-pub fn decode_known_short(frame: &[u8], dest: &mut [u8]) -> bool
-    requires nonzero { HasNoZero frame.now }
-    requires few { (2 ≤ length frame.now) × (length frame.now ≤ 65) }
-    requires room { length frame.now ≤ length dest.old + 1 }
-    ensures { IsTrue result }
-{
-    law_12(); // The first and the last piece of a stream
-    decode_short(frame, dest).is_some()
-}
-
-/// Decodes a source that is one short piece, with or without a zero after it. If the function returns true, all bytes
-/// of the source were consumed: at most one byte follows the piece. And the output fits `dest`.
-pub fn decode_only_frame(source: &[u8], dest: &mut [u8]) -> bool
-    ensures consumed { IsTrue result → length source.now ≤ length (head source.now) + 1 }
-    ensures room { IsTrue result → length (head source.now) ≤ length dest.old + 1 }
-{
-    decode_short(source, dest).is_some()
-}
-
-/// Decodes a frame of 2 to 65 bytes in place. Returns true, because [`decode_short_in_place`] returns a result for each
-/// such frame.
-pub fn decode_known_short_in_place(frame: &mut [u8]) -> bool
-    requires nonzero { HasNoZero frame.old }
-    requires few { (2 ≤ length frame.old) × (length frame.old ≤ 65) }
-    requires whole { missing (last_part frame.old) ≡ 0 }
-    ensures { IsTrue result }
-{
-    law_12(); // The first and the last piece of a stream
-    decode_short_in_place(frame).is_some()
-}
-
-/// Decodes the bytes before the buffer's first zero, in place and without vector instructions.
-pub fn decode_before_zero(buffer: &mut [u8]) -> Result<usize, DecodeError>
-    ensures returned { result ≡ head_result (head buffer.old) }
-    ensures buffer { buffer.new ≡ in_place buffer.old }
-{
-    law_12(); // The first and the last piece of a stream
-    let end = len_to_zero(buffer);
-    decode_blocks_each(buffer, end)
-}
-
 /// Decodes the first piece of the source, and returns the bytes after the piece and its zero. The piece needn't be a
 /// frame. If the source has no piece, returns no bytes.
-pub fn decode_first<'a>(source: &'a [u8], dest: &mut [u8]) -> &'a [u8]
+pub fn rest_after_first<'a>(source: &'a [u8], dest: &mut [u8]) -> &'a [u8]
     ensures rest { (p : List ℕ) → first_piece source.now ≡ Some p
         → result.now ≡ drop (len_through_piece source.now p) source.now }
     ensures none { first_piece source.now ≡ None → result.now ≡ [] }
     ensures buffer { dest.new ≡ overwritten dest.old (first_output source.now) }
 {
-    match decode_piece(source, dest) {
+    match decode_first(source, dest) {
         Some((_, consumed)) => &source[consumed..],
         None => &source[source.len()..],
     }
-}
-
-/// Returns the source from its first nonzero byte on. The first piece stays the same.
-pub fn skip_zeros<'a>(source: &'a [u8]) -> &'a [u8]
-    ensures { first_piece result.now ≡ first_piece source.now }
-{
-    law_12(); // The first and the last piece of a stream
-    &source[leading_zeros(source)..]
 }
 
 /// Encodes the message, and returns whether the frame is canonical. It always is.
@@ -148,7 +70,7 @@ pub fn encode_canonically(message: &[u8], dest: &mut [u8]) -> bool
     ensures { IsTrue result }
 {
     let len = encode(message, dest);
-    kind_by_blocks(&dest[..len]) == FrameKind::Canonical
+    frame_kind(&dest[..len]) == FrameKind::Canonical
 }
 
 /// Writes the frame of the message for this sentinel, followed by the sentinel. Returns the index of the sentinel. It
@@ -165,16 +87,17 @@ pub fn write_ended(message: &[u8], dest: &mut [u8], sentinel: u8) -> usize
 
 /// Encodes a message in place, and writes a zero after the frame. Returns the index of this zero. No byte after the
 /// zero changes.
-pub fn end_in_place(buffer: &mut [u8], message_len: usize) -> usize
-    requires { max_encoded_len message_len < length buffer.old }
-    ensures frame { IsEncodedFrame (take result buffer.new) (message_in message_len buffer.old) }
+pub fn end_in_place(buffer: &mut [u8], start: usize, message_len: usize) -> usize
+    requires room { max_overhead message_len ≤ start }
+    requires within { start + message_len < length buffer.old }
+    ensures frame { IsEncodedFrame (take result buffer.new) (message_in start message_len buffer.old) }
     ensures none_before { HasNoZero (take result buffer.new) }
     ensures ended { slice_index buffer.new result ≡ 0 }
-    ensures len { result ≡ encoded_len (message_in message_len buffer.old) }
+    ensures len { result ≡ encoded_len (message_in start message_len buffer.old) }
     ensures rest { drop (result + 1) buffer.new ≡ drop (result + 1) buffer.old }
 {
     law_4(); // The length of a frame, and its bound
-    let len = encode_in_place(buffer, message_len);
+    let len = encode_in_place(buffer, start, message_len);
     buffer[len] = 0;
     len
 }

@@ -1,26 +1,67 @@
-//! Callers of the crate `cobs`, proved from its public clauses, and functions that the crates of tests share.
+//! Proved callers of the crate `cobs`, and its tests.
 //!
-//! The contract of a caller is derived from the clauses of the calls that it makes. So a clause that says too little
-//! for its users is noticed here.
+//! The contract of each caller is derived from the public clauses of the calls that it makes. So a clause that says too
+//! little for its users is noticed here.
 //!
-//! The tests are in crates of their own: `cobs_frame_vectors` tests whole messages and frames, `cobs_stream_vectors`
-//! tests streams, and `cobs_doc_vectors` tests the examples in the documentation. For every input, the contracts of
-//! `cobs` define the result of each call and the contents of each buffer after the call. The tests check facts that no
-//! contract states:
+//! For every input, the contracts of `cobs` define the result of each call and the contents of each buffer after it. The
+//! tests check what no contract states:
 //!
 //! - The contracts agree with a plain reference.
 //! - A call succeeds if nothing is wrong.
 //! - The texts that are printed or written as JSON are right.
 //! - A call that allocates returns an error if memory runs out.
+//! - The examples in the documentation of `cobs` do what their assertions say.
 //!
 //! Cases that every library of the format can run are in `conformance/`. They include the tests of the original crate,
 //! `cobs` 0.5.1.
 #![tactic(auto)]
 
-pub mod bytes;
+#[cfg(test)]
+mod all_messages;
+#[cfg(test)]
+mod all_pieces;
+#[cfg(test)]
+mod bytes;
 pub mod callers;
 pub mod clients;
+#[cfg(test)]
+mod doc_decoders;
+#[cfg(test)]
+mod doc_decoding;
+#[cfg(test)]
+mod doc_encoders;
+#[cfg(test)]
+mod doc_functions;
+#[cfg(test)]
+mod doc_laws;
+#[cfg(test)]
+mod doc_streams;
+#[cfg(test)]
+mod encoders;
+#[cfg(test)]
+mod hostile;
+#[cfg(test)]
+mod memory;
+#[cfg(test)]
+mod messages;
 pub mod own_coders;
+#[cfg(test)]
+mod readers;
 pub mod receivers;
-pub mod reference;
+#[cfg(test)]
+mod reference;
+#[cfg(test)]
+mod roundtrip;
+#[cfg(test)]
+mod run_callers;
+#[cfg(test)]
+mod slices;
+#[cfg(test)]
+mod states;
+#[cfg(test)]
+mod streaming;
+#[cfg(test)]
+mod streams;
+#[cfg(test)]
+mod texts;
 pub mod worked_callers;

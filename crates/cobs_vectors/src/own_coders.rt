@@ -11,7 +11,6 @@ ghost use Rattle.cobs.specs.Length.{encoded_len, max_encoded_len};
 ghost use Rattle.cobs.specs.OpenBlock.{HasRoomFor};
 ghost use Rattle.cobs.specs.Piece.{is_whole, kept_output};
 ghost use Rattle.cobs.specs.Sentinel.{IsEncodedFrameFor, IsFreeOf, xor_each};
-ghost use Rattle.cobs.specs.Step.{held};
 
 use cobs::laws::{law_1, law_4, law_6, law_15, law_16, law_17, law_19, law_20};
 use cobs::{
@@ -33,19 +32,6 @@ pub fn end_with(
     ensures { IsOk result ↔ HasRoomFor (length buffer.old) (reached_by encoder.old) bytes.now }
 {
     encoder.push(buffer, bytes)?;
-    encoder.finalize(buffer)
-}
-
-/// Encodes a field of four bytes. `push_few` always takes the field, because the encoder is new and the buffer has at
-/// least five bytes.
-pub fn encode_field(field: &[u8], buffer: &mut [u8]) -> Result<usize, DestBufTooSmallError>
-    requires four { length field.now ≡ 4 }
-    requires room { 5 ≤ length buffer.old }
-    ensures ended { IsOk result }
-    ensures frame { IfOk result (λ n. IsEncodedFrame (take n buffer.new) field.now) }
-{
-    let mut encoder = UnbufferedEncoder::new();
-    encoder.push_few(buffer, field);
     encoder.finalize(buffer)
 }
 
@@ -157,25 +143,6 @@ pub fn feed_each(
         }
     }
     None
-}
-
-/// Takes a byte of a piece. Returns whether the message so far, which is then at the front of the buffer, is
-/// `expected`.
-pub fn take_and_compare(
-    decoder: &mut UnbufferedDecoder,
-    buffer: &mut [u8],
-    byte: u8,
-    expected: &[u8],
-) -> bool
-    requires { byte ≢ 0 }
-    ensures takes { TakesPiece buffer.old (phase_of decoder.old) (byte ∷ []) None
-        buffer.new (phase_of decoder.new) }
-    ensures same { IsTrue result
-        ↔ (take (held (length buffer.old) (phase_of decoder.new)) buffer.new ≡ expected.now) }
-{
-    law_17(); // A decoder of your own, byte by byte
-    let count = decoder.take_byte(buffer, byte);
-    &buffer[..count] == expected
 }
 
 /// Handles a byte, but skips the zeros between two frames: for these zeros an idle decoder would only return that no

@@ -15,8 +15,7 @@ use crate::callers::reads_for;
 use cobs::laws::{law_6, law_9, law_12, law_14, law_18};
 use cobs::{
     DecodeVecError, FrameDecoder, PieceEnd, UnbufferedDecoder, decode_in_place,
-    decode_in_place_report, decode_in_place_with_sentinel, decode_short_in_place, decode_vec,
-    decode_vec_with_sentinel,
+    decode_in_place_report, decode_in_place_with_sentinel, decode_vec, decode_vec_with_sentinel,
 };
 use std::alloc::{AllocError, Global};
 
@@ -192,13 +191,4 @@ pub fn before_sentinel(received: &[u8], sentinel: u8) -> &[u8]
         }
     }
     received
-}
-
-/// Decodes a buffer that is one short frame, with or without a zero after it. If the function returns true, at most one
-/// byte of the buffer follows the frame, and the frame has at most 65 bytes.
-pub fn decode_only_frame_in_place(buffer: &mut [u8]) -> bool
-    ensures consumed { IsTrue result → length buffer.old ≤ length (head buffer.old) + 1 }
-    ensures few { IsTrue result → length (head buffer.old) ≤ 65 }
-{
-    decode_short_in_place(buffer).is_some()
 }

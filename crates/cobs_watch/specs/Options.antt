@@ -9,8 +9,7 @@ abbrev pub IsOffered : Task → Type 0
 IsOffered (Show show) = show.settings.length ≤ 16777216
 IsOffered (Send settings) = Unit {0}
 
--- the paths of a task that shows a stream: `path` is the path of the stream, if one was given, and `log` is the path of
--- the log, if one was given
-abbrev pub HasPaths : (path log : Option (List ℕ)) → Task → Type 0
-HasPaths path log (Show show) = (option_map (λ text. text.now) show.path ≡ path) × (option_map (λ text. text.now) show.log ≡ log)
-HasPaths path log (Send settings) = Unit {0}
+-- `path` is the path of the stream that a task shows, if one was given
+abbrev pub HasPath : (path : Option (List ℕ)) → Task → Type 0
+HasPath path (Show show) = option_map (λ text. text.now) show.path ≡ path
+HasPath path (Send settings) = Unit {0}

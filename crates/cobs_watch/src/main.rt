@@ -29,13 +29,13 @@ use clap::error::ErrorKind as CommandErrorKind;
 use cobs_live::capture::write_capture_head;
 use cobs_live::clock::Timer;
 use cobs_live::fault::WatchFault;
-use cobs_live::input::{AnyInput, LiveInput};
-use cobs_live::port::{Logged, Opener, Port, Reopened};
+use cobs_live::input::AnyInput;
+use cobs_live::port::Port;
 use cobs_live::send::{self, run_send};
 use cobs_live::show::run_show;
 use cobs_live::shown::Style;
 use jiff_tz::{SystemTimeZone, TimeZone, TimeZoneDatabase};
-use options::{STDIN, ShowTask, Task, task_of};
+use options::{SHOW_USAGE, STDIN, ShowTask, Task, task_of};
 use std::alloc::AllocError;
 use std::cell::Cell;
 use std::env::{self, VarError};
@@ -49,17 +49,6 @@ const OUTPUT_LEN: usize = 131_072;
 
 /// The system's error number of the last read or write that failed, if there is one.
 type Reason = Cell<Option<i32>>;
-
-/// The reasons why `show` failed, as the system's error numbers. The line that the program writes to standard error
-/// contains the system's text for such a number.
-#[derive(Drop)]
-struct Reasons {
-    /// The last error of the input or of standard output.
-    stream: Reason,
-
-    /// The last error of the log. After an error, nothing is written to the log.
-    log: Reason,
-}
 
 fn main(rt: HostRuntime) -> ExitCode {
     match run(&rt) {
@@ -97,7 +86,11 @@ fn words_of(rt: &HostRuntime) -> Result<Vec<String>, clap::Error> {
     match env::args(rt) {
         Ok(words) => Ok(words.collect(rt.alloc())?),
         Err(error) if error.kind() == ErrorKind::InvalidData => {
-            wrong(rt.alloc(), "an argument that isn't UTF-8 can't be used")
+            wrong(
+                rt.alloc(),
+                SHOW_USAGE,
+                "an argument that isn't UTF-8 can't be used",
+            )
         }
         Err(_) => Err(AllocError.into()),
     }
@@ -163,81 +156,21 @@ fn report_utc(rt: &HostRuntime) {
 
 /// Shows standard input, or the file at the task's path, with dates in this zone, and returns the exit status.
 fn show(rt: &HostRuntime, task: &ShowTask<'_>, zone: TimeZone<'_>) -> anyhow::Result<ExitCode> {
-    let reasons = Reasons {
-        stream: Cell::new(None),
-        log: Cell::new(None),
-    };
-    let log = match &task.log {
-        None => None,
-        Some(path) => match open_log(rt, path) {
-            Ok(file) => Some(Port::new(rt, file, &reasons.log)),
-            Err(error) => return Ok(not_opened(rt, path, &error)),
-        },
-    };
-    let output = Logged::new(Port::new(rt, rt.stdout(), &reasons.stream), log);
+    let reason = Cell::new(None);
+    let output = Port::new(rt, rt.stdout(), &reason);
     let mut output = BufWriter::with_capacity(rt.alloc(), OUTPUT_LEN, output)?;
     if let Err(error) = begin(&mut output, task.settings.view.style) {
-        return Ok(show_faulted(rt, task, error.into(), &reasons));
+        return Ok(show_faulted(rt, task, error.into(), &reason));
     }
     match &task.path {
-        None => show_reader(rt, task, zone, rt.stdin(), &reasons, &mut output),
+        None => show_reader(rt, task, zone, rt.stdin(), &reason, &mut output),
         Some(path) if *path == STDIN => {
-            show_reader(rt, task, zone, rt.stdin(), &reasons, &mut output)
-        }
-        Some(path) if task.reconnect => {
-            let device = Device {
-                rt,
-                path,
-                reason: &reasons.stream,
-            };
-            let line = first_line(rt, &device);
-            let mut input = Reopened::new(rt, device, line);
-            show_input(rt, task, zone, &mut input, &reasons, &mut output)
+            show_reader(rt, task, zone, rt.stdin(), &reason, &mut output)
         }
         Some(path) => match File::open(rt, path) {
-            Ok(file) => show_reader(rt, task, zone, file, &reasons, &mut output),
+            Ok(file) => show_reader(rt, task, zone, file, &reason, &mut output),
             Err(error) => Ok(not_opened(rt, path, &error)),
         },
-    }
-}
-
-/// Opens a log, and returns a duplicate of the log's descriptor. If standard output or standard error is closed, the
-/// descriptor that the system returns for the log can have the number of the closed stream, 1 or 2. The log would then
-/// contain everything that the program writes to that stream. The number of the duplicate is never 0, 1 or 2, so the
-/// program writes to the log only through the duplicate.
-fn open_log(rt: &HostRuntime, path: &str) -> io::Result<File> {
-    let first = File::options().append(true).create(true).open(rt, path)?;
-    first.try_clone()
-}
-
-/// A line that can be opened: its path, the runtime to open it with, and the cell in which the error number of a failed
-/// read is stored.
-#[derive(Drop)]
-struct Device<'a> {
-    rt: &'a HostRuntime,
-    path: &'a str,
-    reason: &'a Reason,
-}
-
-/// A device or FIFO that is open.
-type Line<'a> = Port<'a, &'a HostRuntime, File>;
-
-impl<'a> Opener<Line<'a>> for Device<'a> {
-    fn open(&self) -> io::Result<Line<'a>> {
-        let file = File::open(self.rt, self.path)?;
-        Ok(Port::new(self.rt, file, self.reason))
-    }
-}
-
-/// Opens the line of a device for the first time. If the line can't be opened yet, reports this on standard error and
-/// returns `None`. The program then waits for the line.
-fn first_line<'a>(rt: &HostRuntime, device: &Device<'a>) -> Option<Line<'a>> {
-    match device.open() {
-        Ok(line) => Some(line),
-        Err(error) => {
-            let _ = eprintln!(rt; "cobs_watch: {}: {error}: waiting for it", device.path);
-            None
-        }
     }
 }
 
@@ -259,38 +192,24 @@ fn show_reader<R: Read + Drop, W: Write + Drop>(
     task: &ShowTask<'_>,
     zone: TimeZone<'_>,
     reader: R,
-    reasons: &Reasons,
+    reason: &Reason,
     output: &mut BufWriter<W>,
 ) -> anyhow::Result<ExitCode>
     requires flushed { writer_buffer output.old ≡ [] }
 {
-    let mut input = AnyInput::new(Port::new(rt, reader, &reasons.stream));
-    show_input(rt, task, zone, &mut input, reasons, output)
-}
-
-/// Shows the stream of an input, and returns the exit status.
-fn show_input<S: LiveInput<W>, W: Write + Drop>(
-    rt: &HostRuntime,
-    task: &ShowTask<'_>,
-    zone: TimeZone<'_>,
-    input: &mut S,
-    reasons: &Reasons,
-    output: &mut BufWriter<W>,
-) -> anyhow::Result<ExitCode>
-    requires flushed { writer_buffer output.old ≡ [] }
-{
+    let mut input = AnyInput::new(Port::new(rt, reader, reason));
     let timer = Timer::new(rt, task.settings.view.stamp, zone)?;
     match run_show(
         rt.alloc(),
         &task.settings,
-        task.counting,
+        task.count,
         &timer,
-        input,
+        &mut input,
         output,
         &mut rt.stderr(),
     ) {
         Ok(_) => Ok(ExitCode::SUCCESS),
-        Err(fault) => Ok(show_faulted(rt, task, fault, reasons)),
+        Err(fault) => Ok(show_faulted(rt, task, fault, reason)),
     }
 }
 
@@ -325,26 +244,22 @@ fn not_opened(rt: &HostRuntime, path: &str, error: &io::Error) -> ExitCode {
     ExitCode::FAILURE
 }
 
-/// Reports a fault of `show`, and returns the exit status. If the log couldn't be written, the report names the log. If
-/// the file at the path couldn't be read, the report names that file.
+/// Reports a fault of `show`, and returns the exit status. If the file at the path couldn't be read, the report names
+/// that file.
 fn show_faulted(
     rt: &HostRuntime,
     task: &ShowTask<'_>,
     fault: WatchFault,
-    reasons: &Reasons,
+    reason: &Reason,
 ) -> ExitCode {
-    // `reasons.log` has a number only if the system couldn't write to the log.
-    let (named, fault, reason) = match (reasons.log.get(), fault) {
-        (Some(reason), _) => (task.log, WatchFault::WriteFailed, Some(reason)),
-        (None, WatchFault::ReadFailed) => (task.path, WatchFault::ReadFailed, reasons.stream.get()),
-        (None, fault) => (None, fault, reasons.stream.get()),
-    };
-    let (Some(path), Some(reason)) = (named, reason) else {
-        return faulted(rt, fault, reason);
-    };
-    let error = io::Error::from_raw_os_error(reason);
-    let _ = eprintln!(rt; "cobs_watch: {path}: {fault}: {error}");
-    ExitCode::FAILURE
+    match (fault, task.path, reason.get()) {
+        (WatchFault::ReadFailed, Some(path), Some(number)) => {
+            let error = io::Error::from_raw_os_error(number);
+            let _ = eprintln!(rt; "cobs_watch: {path}: {}: {error}", WatchFault::ReadFailed);
+            ExitCode::FAILURE
+        }
+        (fault, _, reason) => faulted(rt, fault, reason),
+    }
 }
 
 /// Reports a fault, and returns the exit status. If nobody reads the output any more, nothing is reported, and the

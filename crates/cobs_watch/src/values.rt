@@ -8,11 +8,12 @@ use cobs_live::crc::{Crc, Params};
 use cobs_live::shown::Filter;
 use std::alloc::Global;
 
-/// Returns an error about the command line. `message` is the text of the error.
-pub(crate) fn wrong<T>(alloc: Global, message: &str) -> Result<T, Error>
+/// Returns an error about the command line. `message` is the text of the error, and `usage` is the usage after it.
+pub(crate) fn wrong<T>(alloc: Global, usage: &str, message: &str) -> Result<T, Error>
     ensures error { IsErr result }
 {
-    Err(Command::new(alloc, "cobs_watch").error(ErrorKind::ValueValidation, message)?)
+    let mut command = Command::new(alloc, "cobs_watch").override_usage(usage);
+    Err(command.error(ErrorKind::ValueValidation, message)?)
 }
 
 /// Parses the value of the option with this name as a number: decimal, or hexadecimal after `0x`. Returns `None` if the
@@ -22,6 +23,7 @@ pub(crate) fn wrong<T>(alloc: Global, message: &str) -> Result<T, Error>
 /// If the value isn't a number, or if the number is above `max`, returns an error that names the option.
 pub(crate) fn number_of(
     alloc: Global,
+    usage: &str,
     matches: &ArgMatches<'_>,
     name: &str,
     max: u64,
@@ -33,6 +35,7 @@ pub(crate) fn number_of(
         Some(number) if number <= max => Ok(Some(number)),
         Some(_) | None => wrong(
             alloc,
+            usage,
             &format!(in alloc;
                 "the value '{text}' of '--{name}' isn't a number from 0 to {max}, decimal, or hexadecimal after 0x"
             )?,
@@ -49,8 +52,12 @@ fn parsed(text: &str) -> Option<u64> {
 }
 
 /// Returns the value of `--sentinel`.
-pub(crate) fn sentinel_of(alloc: Global, matches: &ArgMatches<'_>) -> Result<u8, Error> {
-    let number = number_of(alloc, matches, "sentinel", 255)?.unwrap_or(0);
+pub(crate) fn sentinel_of(
+    alloc: Global,
+    usage: &str,
+    matches: &ArgMatches<'_>,
+) -> Result<u8, Error> {
+    let number = number_of(alloc, usage, matches, "sentinel", 255)?.unwrap_or(0);
     // The conversion never fails, because `number_of` has limited the number to 255.
     Ok(u8::try_from(number).unwrap_or(0))
 }
@@ -62,12 +69,13 @@ pub(crate) fn sentinel_of(alloc: Global, matches: &ArgMatches<'_>) -> Result<u8,
 /// a part of the value isn't a parameter, the error names that part.
 pub(crate) fn checksum_of(
     alloc: Global,
+    usage: &str,
     matches: &ArgMatches<'_>,
 ) -> Result<Option<Checksum>, Error> {
     let Some(text) = matches.get_str("crc") else {
         return Ok(None);
     };
-    let params = params_of(alloc, text)?;
+    let params = params_of(alloc, usage, text)?;
     let little = match matches.get_str("crc-order") {
         Some(order) => order == "little",
         None => params.reflected,
@@ -131,7 +139,7 @@ impl Written {
 
 /// Returns the parameters of a checksum. The text is the name of the checksum, or a list of its parameters, such as
 /// `poly=0x1021,init=0xffff`.
-fn params_of(alloc: Global, text: &str) -> Result<Params, Error>
+fn params_of(alloc: Global, usage: &str, text: &str) -> Result<Params, Error>
     ensures sized { IfOk result (λ params. (0 < params.size) × (params.size ≤ 4)) }
 {
     if let Some(crc) = crc_of(text) {
@@ -148,6 +156,7 @@ fn params_of(alloc: Global, text: &str) -> Result<Params, Error>
         if !written.take(part) {
             return wrong(
                 alloc,
+                usage,
                 &format!(in alloc;
                     "'{part}' of '--crc' is neither the name of a checksum ({NAMES}) nor poly=N, width=N, init=N, xorout=N or reflected, each given once"
                 )?,
@@ -158,6 +167,7 @@ fn params_of(alloc: Global, text: &str) -> Result<Params, Error>
         Some(params) => Ok(params),
         None => wrong(
             alloc,
+            usage,
             "'--crc' needs a poly above 0 and a width of 8, 16, 24 or 32 bits, in which poly, init and xorout fit",
         ),
     }
@@ -194,41 +204,14 @@ fn sized(written: &Written) -> Option<Params>
     })
 }
 
-/// Returns the filter that `--only`, `--min`, `--max` and `--prefix` ask for.
-///
-/// # Errors
-/// Returns an error if the value of `--prefix` doesn't consist of pairs of hexadecimal digits, if the value of `--min`
-/// or `--max` isn't a number, or if `--min` is above `--max`.
-pub(crate) fn filter_of(alloc: Global, matches: &ArgMatches<'_>) -> Result<Filter, Error> {
+/// Returns the filter that `--only` asks for.
+pub(crate) fn filter_of(matches: &ArgMatches<'_>) -> Filter {
     let kinds = matches.get_strs("only").unwrap_or(&[]);
-    let prefix = matches.get_str("prefix").unwrap_or("");
-    let Ok(prefix) = hex::decode(alloc, prefix) else {
-        return wrong(
-            alloc,
-            "the value of '--prefix <HEX>' isn't pairs of hexadecimal digits",
-        );
-    };
-    let min = number_of(alloc, matches, "min", u64::MAX)?.unwrap_or(0);
-    let max = number_of(alloc, matches, "max", u64::MAX)?.unwrap_or(u64::MAX);
-    if max < min {
-        return wrong(
-            alloc,
-            "the value of '--min <N>' is above that of '--max <N>'",
-        );
-    }
-    // `unfinished` and `hung up` have no decoded bytes. So they aren't shown with `--min`, `--max` or `--prefix`,
-    // unless `--only` names `unfinished`.
-    let is_whole = ["min", "max", "prefix"]
-        .iter()
-        .all(|name| matches.get_str(name).is_none());
-    Ok(Filter {
+    Filter {
         messages: kinds.is_empty() || kinds.contains(&"message"),
         broken: kinds.is_empty() || kinds.contains(&"broken"),
         too_long: kinds.is_empty() || kinds.contains(&"too-long"),
         bad_crc: kinds.is_empty() || kinds.contains(&"bad-crc"),
-        unfinished: kinds.contains(&"unfinished") || kinds.is_empty() && is_whole,
-        min: min as usize,
-        max: max as usize,
-        prefix,
-    })
+        unfinished: kinds.is_empty() || kinds.contains(&"unfinished"),
+    }
 }

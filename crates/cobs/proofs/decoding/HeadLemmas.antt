@@ -2,7 +2,7 @@
 -- the first place that passes a test. Then the first piece of a list: it begins after the leading zeros
 -- (`first_piece_some`). This is by `first_piece_head` of `OutcomeLemmas`, which is about a list that begins with a
 -- nonzero byte.
-use Rattle.std.proofs.Common.{◌≡◌, ◌≢◌, ℕ, zero, suc, ◌+◌, ◌-◌, ◌<◌, ◌≤◌, List, [], ◌∷◌, ◌++◌, length, take, drop, get_or, Some, None, refl, sym, ap, ◌∙◌, ◌==◌, false, arith, inl, inr, length-drop, length-take}
+use Rattle.std.proofs.Common.{◌≡◌, ◌≢◌, ℕ, zero, suc, ◌+◌, ◌<◌, ◌≤◌, List, [], ◌∷◌, ◌++◌, length, take, drop, get_or, Some, None, refl, sym, ◌==◌, false, arith, length-drop, length-take}
 use Rattle.std.proofs.lemmas.Bool.{cases_lt, ne_eqb, eq-eqb, eqb-true}
 use Rattle.std.proofs.lemmas.List.{drop_more, get_or-take, get_or-drop, take-append-drop}
 use Rattle.std.proofs.lemmas.List.Sums.{fails_before_first, passes_at_first, position_or_len_is, prefix_len_stops}
@@ -11,7 +11,7 @@ use Rattle.std.proofs.lemmas.List.Elements.{All-get_or}
 use Rattle.cobs.specs.Grammar.{HasNoZero}
 use Rattle.cobs.specs.Stream.{first_piece, head}
 use Rattle.cobs.specs.Decode.{leading_zeros}
-use Rattle.cobs.proofs.decoding.OutcomeLemmas.{head-cons, head-is, length-head-is, length-head, first_piece_head}
+use Rattle.cobs.proofs.decoding.OutcomeLemmas.{head-cons, head-is, length-head-is, first_piece_head}
 
 -- if the first n bytes aren't zeros, and a zero or the end of the list follows them, they are the bytes before the
 -- first zero
@@ -37,20 +37,6 @@ head-cut t more = let n = length (head t) in cc (take-append-drop n t, drop_more
 -- if there is a zero at index i, at most i bytes are before the first zero
 pub head-most : (t : List ℕ) (i : ℕ) → i < length t → get_or t i 0 ≡ 0 → length (head t) ≤ i
 head-most t i more found = grind (arith, length-head-is, fails_before_first, cases_lt)
-
--- Nothing follows the first zero of t, and n is the length of t without a zero at its end. Then n bytes are before the
--- first zero.
-pub short_head : (t : List ℕ) (n : ℕ) → length t ≤ length (head t) + 1 → n ≤ length t → length t ≤ n + 1 → 0 < length t → (n < length t → get_or t n 0 ≡ 0) → (n ≡ length t → get_or t (n - 1) 0 ≢ 0) → n ≡ length (head t)
-short_head t n few within last some stop other = elim (cases_lt n (length t)) [
-  -- t is n bytes and a zero: at most n bytes are before the first zero, and `few` says that at least n bytes are
-  | inl less ↦ omega (arith, head-most t n less (stop less))
-  | inr all ↦ elim (cases_lt (length (head t)) (length t)) [
-    -- t would end in its first zero, but its last byte isn't a zero (`other`)
-    | inl less ↦ absurd (other (omega arith) (ap (λ (k : ℕ). get_or t k 0) (omega arith) ∙ head-stop t less))
-    -- no zero is in t, so all its bytes, which are n, are before the first zero
-    | inr whole ↦ omega (arith, length-head t)
-  ]
-]
 
 -- a list that begins with a nonzero byte has a byte before its first zero
 pub head_some : (t : List ℕ) → 0 < length t → get_or t 0 0 ≢ 0 → 0 < length (head t)

@@ -5,16 +5,16 @@
 -- bytes are its first piece (`first_piece_head`).
 use Rattle.std.proofs.Common.{◌≡◌, ◌≢◌, ℕ, ◌<◌, ◌≤◌, ◌↔◌, List, [], ◌∷◌, ◌++◌, length, All, Some, refl, ap, arith, length-append, length-drop, length-take, false, not, ◌==◌, inl, inr}
 use Rattle.std.specs.List.{position_or_len, take_while}
-use Rattle.std.proofs.lemmas.Bool.{cases_eq, ne_eqb, eq-eqb, leb-true, leb-false}
+use Rattle.std.proofs.lemmas.Bool.{cases_eq, ne_eqb, leb-true, leb-false}
 use Rattle.std.proofs.lemmas.List.Elements.{All-cons, All-nil, All-weaker, All-take}
 use Rattle.std.proofs.lemmas.List.Folds.{length-prefix_len}
 use Rattle.std.proofs.lemmas.List.Sums.{take_while-cons}
 use Rattle.std.proofs.lemmas.List.Splits.{slice_split_none}
 use Rattle.cobs.specs.Grammar.{HasNoZero, Reads}
 use Rattle.cobs.specs.Headline.{IsPiece}
-use Rattle.cobs.specs.Piece.{IsWhole, output, is_whole, last_part, missing}
+use Rattle.cobs.specs.Piece.{IsWhole, output, is_whole}
 use Rattle.cobs.specs.Stream.{first_piece, head, Message, outcome_of, Outcome, Broken, TooLong}
-use Rattle.cobs.proofs.decoding.PieceCuts.{is_whole-of, joint_of, output-empty, output-last, output-more, by_parts}
+use Rattle.cobs.proofs.decoding.PieceCuts.{joint_of, output-empty, output-last, output-more, by_parts}
 use Rattle.cobs.proofs.format.LengthLemmas.{no_zero, some_stretch, stretches-front}
 use Rattle.cobs.proofs.format.FrameLemmas.{frame_some, frame_nonzero, frame_whole, frame_output, reads_output}
 
@@ -65,15 +65,6 @@ outcome_of_whole p n fits whole = grind arith
 pub outcome_of_long : (p : List ℕ) (n : ℕ) → n < length (output p) → outcome_of p n ≡ TooLong
 unfolding outcome_of
 outcome_of_long p n long = grind arith
-
--- if no byte of the last part is missing, and the output fits, the piece is a message
-pub outcome_of_none_missing : (p : List ℕ) (n : ℕ) → 0 < length p → length (output p) ≤ n → missing (last_part p) ≡ 0 → outcome_of p n ≡ Message (output p)
-outcome_of_none_missing p n some fits whole = grind (arith, outcome_of_whole, is_whole-of, eq-eqb)
-
--- if bytes of the last part are missing, and the output fits, the piece is broken
-pub outcome_of_some_missing : (p : List ℕ) (n : ℕ) → 0 < length p → length (output p) ≤ n → missing (last_part p) ≢ 0 → outcome_of p n ≡ Broken (length (output p))
-unfolding outcome_of
-outcome_of_some_missing p n some fits broken = grind (arith, is_whole-of, ne_eqb)
 
 -- the outcome of a frame is its message, in each buffer that holds it
 pub outcome_frame : (f m : List ℕ) (n : ℕ) → Reads f m → length m ≤ n → outcome_of f n ≡ Message m

@@ -1,7 +1,7 @@
 -- If each byte of a source is XORed with its sentinel, the bytes before the first sentinel become the bytes before the
 -- first zero (`front-head`, `xor_head`). So the result for these bytes is the result for the whole source
 -- (`result_of_sentinel_decode-head`).
-use Rattle.std.proofs.Common.{◌≡◌, ◌≢◌, ℕ, ◌<◌, ◌≤◌, All, List, [], ◌∷◌, length, take, get_or, bit_xor, Err, arith}
+use Rattle.std.proofs.Common.{◌≡◌, ◌≢◌, ℕ, ◌<◌, ◌≤◌, All, List, [], ◌∷◌, length, take, get_or, bit_xor, arith}
 use Rattle.std.specs.Int.Bits.{xor_self}
 use Rattle.std.proofs.lemmas.List.{get_or-map, length-map, take-map}
 use Rattle.cobs.specs.Overwritten.{overwritten}
@@ -10,7 +10,6 @@ use Rattle.cobs.specs.Piece.{kept_output}
 use Rattle.cobs.specs.Sentinel.{xor_each}
 use Rattle.cobs.specs.Stream.{head}
 use Rattle.cobs.specs.Decode.{head_result, head_result_within, result_of_sentinel_decode}
-use Rattle.cobs.specs.declared.error.DecodeError.TheVariants.{TargetBufTooSmall}
 use Rattle.cobs.proofs.decoding.HeadLemmas.{front_is_head}
 use Rattle.cobs.proofs.decoding.KeptLemmas.{kept_output-empty}
 use Rattle.cobs.proofs.decoding.OutcomeSteps.{overwritten-none}
@@ -23,10 +22,6 @@ module _ (h : List ℕ) (n : ℕ) where
   -- if the kept output of h fits
   pub result-fits : length (kept_output h) ≤ n → head_result h ≡ head_result_within h n
   result-fits fits = grind arith
-
-  -- if the kept output of h is too long
-  pub result-too_long : n < length (kept_output h) → Err TargetBufTooSmall ≡ head_result_within h n
-  result-too_long long = grind arith
 
 -- THE SOURCE BEFORE ITS FIRST SENTINEL
 

@@ -1,13 +1,11 @@
 -- The kept output of a piece h is the output of all its bytes except the last few, which are at most 253 (`kept-cut`),
 -- since a broken block has at most 253 bytes after its code. The proof goes from block to block (`ends-next`), as
 -- `kept_len` does: a block ends at a place in h if no byte of a block is missing before that place.
-use Rattle.std.proofs.Common.{◌≡◌, ◌≢◌, ℕ, zero, suc, All, inl, inr, length-append, refl, ◌+◌, ◌-◌, ◌<◌, ◌≤◌, List, [], ◌∷◌, ◌++◌, length, take, drop, replicate, get_or, arith, append_assoc, append-nil, take_all, take_at}
-use Rattle.std.proofs.lemmas.List.{drop_more, take_more, length-take-le, length-drop, take-append-drop}
+use Rattle.std.proofs.Common.{◌≡◌, ◌≢◌, ℕ, length-append, ◌+◌, ◌-◌, ◌<◌, ◌≤◌, List, [], ◌∷◌, ◌++◌, length, take, drop, get_or, arith, append_assoc, append-nil, take_at}
+use Rattle.std.proofs.lemmas.List.{take_more, length-take-le, length-drop, take-append-drop}
 use Rattle.std.proofs.Math.Seq.{take-add}
-use Rattle.std.proofs.lemmas.List.Elements.{All-get_or}
-use Rattle.std.proofs.lemmas.Bool.{cases_lt, eq-eqb, ne_eqb}
-use Rattle.cobs.specs.Grammar.{HasNoZero}
-use Rattle.cobs.specs.Piece.{kept_output, last_part, missing, output, parts, parts_after}
+use Rattle.std.proofs.lemmas.Bool.{eq-eqb, ne_eqb}
+use Rattle.cobs.specs.Piece.{kept_output, last_part, missing, output}
 use Rattle.cobs.proofs.decoding.PieceLemmas.{last_part-push_next, last_part-push_more, missing-push_more, output-push_more}
 use Rattle.cobs.proofs.decoding.PieceCuts.{is_whole-of, output-empty}
 
@@ -79,49 +77,8 @@ module _ (h : List ℕ) (at code : ℕ) (here : at < length h) (is : code ≡ ge
     unfolding kept_output
     broken-kept = grind (arith, front-is, behind, last_part-push_next, is_whole-of, broken-last, ne_eqb, length-append, take_at, take-append-drop)
 
--- if a block ends at the place `at`, and n blocks without bytes follow, a block ends after these blocks
-pub ends-ones : (n : ℕ) (h : List ℕ) (at : ℕ) → at + n ≤ length h → take n (drop at h) ≡ replicate n 1
-    → missing (last_part (take at h)) ≡ 0 → missing (last_part (take (at + n) h)) ≡ 0
-ends-ones zero h at fits ones ends = grind arith
-ends-ones (suc n) h at fits ones ends =
-    -- the first of the n + 1 codes is 1 (`one`), and so are the other n (`others`)
-    let row = rw (drop_more h at 0 (omega arith)) at ones in
-    let one : 1 ≡ get_or h at 0 = cc in
-    let others : take n (drop (at + 1) h) ≡ replicate n 1 = cc in
-    -- the block of the first code ends one byte after `at`
-    let next = ends-next h at 1 (omega arith) one ends (omega arith) (omega arith) in
-    grind (arith, ends-ones n h (at + 1) (omega arith) others next)
-
 -- if no byte of the last part is missing, the whole output is kept
 pub whole-kept : (p : List ℕ) → missing (last_part p) ≡ 0 → output p ≡ kept_output p
 unfolding kept_output
 whole-kept [] h = grind (arith, output-empty)
 whole-kept (c ∷ p) h = grind (arith, is_whole-of, eq-eqb)
-
--- the kept output is the output of the first k bytes, and at most 253 bytes come after them
-abbrev KeptBy : List ℕ → ℕ → Type 0
-KeptBy h k = (length h ≤ k + 253) × (output (take k h) ≡ kept_output h)
-
--- the number k of `KeptBy` is found from a place at which a block ends, in at most n steps from block to block
-kept-from : (n : ℕ) (h : List ℕ) (at : ℕ) → HasNoZero h → All (λ b. b < 256) h → at ≤ length h → length h ≤ at + n
-    → missing (last_part (take at h)) ≡ 0 → (k : ℕ) × KeptBy h k
-kept-from zero h at none small within most ends = (at, grind (arith, take_all, whole-kept))
-kept-from (suc n) h at none small within most ends = elim (cases_lt at (length h)) [
-  | inr all ↦ (at, grind (arith, take_all, whole-kept))
-  | inl here ↦
-      -- `some` and `below`: the code is from 1 to 255, since it is a nonzero byte
-      let code = get_or h at 0 in
-      let some : 0 < code = grind (arith, All-get_or) in
-      let below : code < 256 = grind (arith, All-get_or) in
-      elim (cases_lt (length h) (at + code)) [
-        -- the block breaks off, so the output is kept up to its code; at most 253 bytes follow the code
-        | inl short ↦ (at + 1, (omega arith, broken-kept h at code here refl ends short))
-        -- the block is whole: the next step begins at its end
-        | inr fits ↦ kept-from n h (at + code) none small (omega arith) (omega arith) (ends-next h at code here refl ends some (omega arith))
-      ]
-]
-
--- the main lemma: each piece has such a number k
-pub kept-cut : (h : List ℕ) → HasNoZero h → All (λ b. b < 256) h → (k : ℕ) × KeptBy h k
-unfolding last_part parts parts_after
-kept-cut h none small = kept-from (length h) h 0 none small (omega arith) (omega arith) refl

@@ -28,7 +28,7 @@ pub overwritten-begins : (buffer bytes : List ℕ) → length bytes ≤ length b
 overwritten-begins buffer bytes fits = grind (arith, take_at, take_all)
 
 -- the first piece is no longer than the stream
-first_piece_within : (t p : List ℕ) → first_piece t ≡ Some p → length p ≤ length t
+pub first_piece_within : (t p : List ℕ) → first_piece t ≡ Some p → length p ≤ length t
 unfolding first_piece
 first_piece_within [] p is = absurd (cc)
 first_piece_within (zero ∷ t) p is = grind (arith, (first_piece_within t p is))

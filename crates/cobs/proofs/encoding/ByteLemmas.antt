@@ -5,14 +5,14 @@ use Rattle.std.proofs.Common.{◌≡◌, ◌≢◌, ℕ, ◌+◌, ◌-◌, ◌<�
 use Rattle.std.proofs.Math.ListN.{set}
 use Rattle.std.proofs.lemmas.List.{length-set}
 use Rattle.cobs.specs.Grammar.{HasNoZero}
-use Rattle.cobs.specs.Length.{encoded_len, open_len}
+use Rattle.cobs.specs.Length.{encoded_len}
 use Rattle.cobs.specs.OpenBlock.{CobsEncoderAfter, IsPlaceIn, Reached, end_after, next_of, place_at, HasRoomFor}
 use Rattle.cobs.specs.Internal.Taking.{TakesFront}
 use Rattle.cobs.proofs.encoding.AfterLemmas.{after-len, after-place}
 use Rattle.cobs.proofs.encoding.OpenLenLemmas.{same_start, open_len-least}
 use Rattle.cobs.proofs.encoding.ReachLemmas.{IsNotFull, Reaches-zero}
-use Rattle.cobs.proofs.encoding.TakingLemmas.{front-filled, front-open, joined, reaches-start, short_room}
-use Rattle.cobs_bytes.proofs.bytes.ListLemmas.{length-ones, ones-nonzero}
+use Rattle.cobs.proofs.encoding.TakingLemmas.{front-filled, front-none, front-open, front-reaches, joined, short_room}
+use Rattle.cobs.proofs.bytes.ListLemmas.{length-ones, ones-nonzero}
 use Rattle.cobs.specs.Internal.Reaches.{Reaches, start_with}
 use Rattle.cobs.specs.Fields.Progress.{reached_by}
 use Rattle.cobs.specs.declared.enc.unbuffered.UnbufferedEncoder.{UnbufferedEncoder}
@@ -31,7 +31,7 @@ after-more {r = r} a bytes h nonzero long some =
 module _ {source slice : List ℕ} {r : Reached} {next : ℕ} (place : IsPlaceIn (length slice) r) (fits : end_after r source ≤ length slice) (some : 0 < length source) (at : next ≡ next_of r) where
   -- at the start, no byte of the source is encoded
   start : Reaches (start_with slice r source) slice 0 r.block.index next (λ _. Unit {0})
-  start = rw at (reaches-start some place.some place.not_full)
+  start = rw at (front-reaches (front-none place) some)
 
   -- a zero closes the open block
   pub byte-zero : {r' : Reached} {code : ℕ} → get_or source 0 0 ≡ 0 → code ≡ r.block.code → r' ≡ place_at next 1 false → TakesFront slice r source 1 (set slice r.block.index code) r'
@@ -92,19 +92,6 @@ module _ {slice m : List ℕ} {r : Reached} (h : CobsEncoderAfter slice r m) (ro
 pub is-place : (e : UnbufferedEncoder) (n : ℕ) → e.taken ≤ 253 → e.index + e.taken + 1 < n → IsPlaceIn n (reached_by e)
 is-place e n short room = grind arith
 
--- there is room for a byte if the open block isn't full, and the byte's index is within the slice
-pub has-room : (e : UnbufferedEncoder) (slice : List ℕ) (byte : ℕ) → e.taken ≤ 253 → e.index + e.taken + 1 < length slice → HasRoomFor (length slice) (reached_by e) (byte ∷ [])
-has-room e slice byte short room = record { place = is-place e _ short room; fits = fits-byte slice (reached_by e) byte (omega arith) (omega arith) (omega arith) }
-
--- if the progress is possible, the open block isn't full
-pub place-short : (e : UnbufferedEncoder) (n : ℕ) → IsPlaceIn n (reached_by e) → e.taken ≤ 253
-place-short e n p = grind arith
-
--- the converse of `has-room`: if there is room for a byte, the open block isn't full, and the byte's index is within
--- the slice
+-- if there is room for a byte, the open block isn't full, and the byte's index is within the slice
 pub room-only : (e : UnbufferedEncoder) (n byte : ℕ) → HasRoomFor n (reached_by e) (byte ∷ []) → (e.taken ≤ 253) × (e.index + e.taken + 1 < n)
 room-only e n byte h = grind (arith, open_len-least)
-
--- the index at which the frame ends after some more bytes
-pub end-with : (e : UnbufferedEncoder) (bytes : List ℕ) → e.taken ≤ 253 → 0 < length bytes → end_after (reached_by e) bytes ≡ e.index + open_len (e.taken + 1) bytes
-end-with e bytes short some = grind arith

@@ -9,7 +9,7 @@ use Rattle.cobs.specs.Length.{encoded_len, max_encoded_len, open_len}
 use Rattle.cobs.proofs.format.LengthLemmas.{stretches-front, encoded_len-full, encoded_len-nonzero, encoded_len-run, encoded_len-le}
 use Rattle.cobs.proofs.format.UniqueLemmas.{len-blocks}
 use Rattle.cobs.proofs.encoding.OpenLemmas.{message_of-more}
-use Rattle.cobs_bytes.proofs.bytes.ListLemmas.{length-ones, one-nonzero, ones-nonzero}
+use Rattle.cobs.proofs.bytes.ListLemmas.{length-ones, one-nonzero, ones-nonzero}
 use Rattle.cobs.specs.Internal.Reaches.{Opened}
 
 -- the values of the nonzero bytes at the start of a message don't matter

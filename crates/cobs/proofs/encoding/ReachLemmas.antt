@@ -2,13 +2,13 @@
 -- next bytes do: nonzero bytes join the open block (`Reaches-join`), and a zero closes it (`Reaches-zero`). If the open
 -- block has 254 bytes and more bytes follow, its code 255 closes it (`Reaches-full`). The proofs use `OpenedLemmas` for
 -- the slice, and `OpenLenLemmas` for the end of the frame.
-use Rattle.std.proofs.Common.{◌≡◌, ◌≢◌, ℕ, ◌+◌, ◌-◌, ◌<◌, ◌≤◌, Bool, true, false, List, ◌∷◌, ◌++◌, length, drop, take, get_or, replicate, zero, suc, refl, sym, arith, inl, inr, ◌⊎◌, append-nil, append_assoc, length-take-le, length-drop}
+use Rattle.std.proofs.Common.{◌≡◌, ◌≢◌, ℕ, ◌+◌, ◌-◌, ◌<◌, ◌≤◌, Bool, true, false, List, ◌∷◌, ◌++◌, length, drop, take, get_or, sym, arith, inl, inr, ◌⊎◌, append-nil, append_assoc, length-take-le, length-drop}
 use Rattle.std.proofs.Math.ListN.{set}
 use Rattle.std.proofs.Math.Seq.{take-add}
 use Rattle.std.proofs.lemmas.Bool.{cases_eq}
-use Rattle.std.proofs.lemmas.List.{drop_more, drop-set-lt, take_more, set-get_or}
+use Rattle.std.proofs.lemmas.List.{drop_more, drop-set-lt, take_more}
 use Rattle.cobs.specs.Grammar.{HasNoZero}
-use Rattle.cobs.proofs.encoding.OpenedLemmas.{Opened-code, Opened-same-empty, Opened-join, Opened-close}
+use Rattle.cobs.proofs.encoding.OpenedLemmas.{Opened-code, Opened-join, Opened-close}
 use Rattle.cobs.proofs.encoding.OpenLenLemmas.{len-end, open_len-full, open_len-run, open_len-zero, open_len-least}
 use Rattle.cobs.specs.Internal.Reaches.{HadTaken, Opened, Reaches, Start, whole_end}
 
@@ -26,11 +26,6 @@ module _ {s : Start} {slice : List ℕ} {pos index next : ℕ} {P : Bool → Typ
   -- the property P of the last block can be replaced by a weaker property Q
   pub Reaches-weaker : {Q : Bool → Type 0} → ((full : Bool) → P full → Q full) → Reaches s slice pos index next Q
   Reaches-weaker weaker = grind arith
-
-  -- if the open block has no bytes, the bytes from its code's place up to the end of the whole frame don't matter
-  pub Reaches-same-empty : (slice' : List ℕ) → next ≡ index + 1 → take index slice' ≡ take index slice
-      → drop (whole_end s) slice' ≡ drop (whole_end s) s.slice → Reaches s slice' pos index next P
-  Reaches-same-empty slice' empty front back = grind (arith, Opened-same-empty)
 
   -- the byte in the place of the open block's code doesn't matter
   pub Reaches-code : (x : ℕ) → Reaches s (set slice index x) pos index next P
@@ -115,28 +110,3 @@ module _ {s : Start} {slice : List ℕ} {pos index next : ℕ} {P : Bool → Typ
 -- or there is no block before it. An open block with 254 bytes isn't closed yet, so it doesn't count as full here.
 abbrev pub IsNotFull : Bool → Type 0
 IsNotFull full = full ≡ false
-
--- n + 1 equal bytes are one such byte and n more
-pub alike-first : (n pos b : ℕ) (xs : List ℕ) → pos + suc n ≤ length xs → take (suc n) (drop pos xs) ≡ replicate (suc n) b
-    → (get_or xs pos 0 ≡ b) × (take n (drop (pos + 1) xs) ≡ replicate n b)
-alike-first n pos b xs within alike = let left = drop_more xs pos 0 (omega arith) in (cc, cc)
-
--- The open block has no bytes, so n zeros close n blocks without bytes, the first of which is the open block. The codes
--- 1 of these blocks, and the code 1 of the block that is then open, are already in place.
-pub Reaches-ones : (n : ℕ) {s : Start} {slice : List ℕ} {pos index : ℕ} → Reaches s slice pos index (index + 1) IsNotFull → pos + n ≤ length s.source → whole_end s ≤ length slice
-    → take n (drop pos s.source) ≡ replicate n 0 → take (suc n) (drop index slice) ≡ replicate (suc n) 1 → Reaches s slice (pos + n) (index + n) (index + n + 1) IsNotFull
-Reaches-ones zero r within fits zeros ones = grind arith
-Reaches-ones (suc n) {s} {slice} {pos} {index} r within fits zeros ones =
-    let room = least r in
-    -- the first of the zeros, and the first of the ones in the slice
-    let zero = alike-first n pos 0 s.source within zeros in
-    let one = alike-first (suc n) index 1 slice (omega arith) ones in
-    -- `same`: the code of the first block is the one that is already in its place
-    let code : index + 1 - index ≡ get_or slice index 0 = omega arith in
-    let same : set slice index (index + 1 - index) ≡ slice = grind (arith, set-get_or) in
-    -- the first zero closes the first block, by `Reaches-zero`, whose result has the slice with the code set; `same`
-    -- says that this is the slice
-    let closed = rw same at (Reaches-zero r {Q = IsNotFull} fits (omega arith) zero.0 (omega arith) refl) in
-    -- the other n zeros, by induction; the result has pos + 1 + n in place of pos + suc n, and `Reaches-at` replaces
-    -- such numbers
-    Reaches-at refl (omega arith) (omega arith) (omega arith) (λ full p. p) (Reaches-ones n closed (omega arith) fits zero.1 one.1)

@@ -1,11 +1,14 @@
 -- Lemmas on how the core of the encoder takes a source, step by step: `front-taken` derives `TakesFront`, the effect of
--- a step, from `Reaches`, and `front-next` joins two steps. At the end, `all-after` and `start-after` say that the
--- encoder has taken the whole source.
-use Rattle.std.proofs.Common.{◌≡◌, ◌≢◌, get_or, ℕ, ◌+◌, ◌<◌, ◌≤◌, Bool, true, false, List, [], ◌∷◌, ◌++◌, length, drop, take, refl, ◌∙◌, inl, inr, arith, append-nil, append_assoc, length-drop, take_all}
+-- a step, from `Reaches`, and `front-reaches` goes back from there, for the next step. At the end, `all-after` and
+-- `start-after` say that the encoder has taken the whole source.
+use Rattle.std.proofs.Common.{◌≡◌, ◌≢◌, get_or, ℕ, ◌+◌, ◌<◌, ◌≤◌, Bool, true, false, List, [], ◌∷◌, ◌++◌, length, drop, take, refl, ◌∙◌, inl, inr, arith, append-nil, length-append, length-take-le, length-drop, take_all}
+use borrow.Rule.Slice.PartMut.{put_mid}
+use Rattle.std.proofs.lemmas.Simd.{length-chunk}
+use Rattle.cobs.proofs.encoding.OpenedLemmas.{Opened-same}
+use Rattle.cobs.proofs.bytes.ListLemmas.{behind-three, front-three, mid-three}
 use Rattle.std.proofs.Math.ListN.{set}
-use Rattle.std.proofs.Math.Seq.{take-add}
 use Rattle.std.proofs.lemmas.Bool.{cases_Bool, cases_lt}
-use Rattle.std.proofs.lemmas.List.{drop-drop, drop-set, drop-set-lt, drop_all, drop_more, length-set, take-set-le, take_rest}
+use Rattle.std.proofs.lemmas.List.{drop-drop, drop-set, drop-set-lt, drop_all, drop_more, length-set}
 use Rattle.std.proofs.lemmas.Grind.{common_steps}
 use Rattle.cobs.specs.Grammar.{HasNoZero}
 use Rattle.cobs.specs.Length.{encoded_len, open_len}
@@ -13,25 +16,25 @@ use Rattle.cobs.specs.OpenBlock.{Reached, CobsEncoderAfter, IsPlaceIn, end_after
 use Rattle.cobs.specs.Internal.Taking.{TakesFront}
 use Rattle.cobs.proofs.encoding.AfterLemmas.{after-end, after-nothing, end-is, from_after, to_after}
 use Rattle.cobs.proofs.encoding.OpenLenLemmas.{open_len-least, open_len-most}
-use Rattle.cobs.proofs.encoding.ReachLemmas.{IsNotFull, Reaches-at, Reaches-full, Reaches-join, ends, full-taken, least}
+use Rattle.cobs.proofs.encoding.ReachLemmas.{IsNotFull, Reaches-at, Reaches-full, Reaches-join, Reaches-weaker, ends, full-taken, least}
 use Rattle.cobs.specs.Internal.Reaches.{HadTaken, Reaches, Start, start_with, whole_end}
 
 -- if at least one byte follows, the end of the frame is counted with `open_len`
 pub after-some : (r : Reached) (bytes : List ℕ) → 0 < length bytes → end_after r bytes ≡ r.block.index + open_len r.block.code bytes
 after-some r bytes h = grind arith
 
--- the rule set for the tactics of `try_append`
+-- the rule set for `fits-byte` of `ByteLemmas`
 pub ruleset short_room = (after-some, open_len-most, cases_Bool)
 
 -- each byte of the source needs at least one byte of the frame
 pub next-least : (r : Reached) (source : List ℕ) → 0 < r.block.code → 0 < length source → next_of r + length source ≤ end_after r source
 next-least r source code some = grind (arith, open_len-least)
 
--- at the start of a call, no byte of the source is encoded yet
-pub reaches-start : {source old : List ℕ} {r : Reached} → 0 < length source → 0 < r.block.code → r.block.code < 255
-    → Reaches (start_with old r source) old 0 r.block.index (next_of r) (λ _. Unit {0})
+-- between two steps, the first `pos` bytes of the source are encoded
+pub front-reaches : {source old slice : List ℕ} {r r' : Reached} {pos : ℕ} → TakesFront old r source pos slice r' → pos < length source
+    → Reaches (start_with old r source) slice pos r'.block.index (next_of r') (λ _. Unit {0})
 unfolding HadTaken
-reaches-start some code short = grind (arith, append-nil, from_after)
+front-reaches t more = grind (arith, after-some, length-drop, from_after)
 
 -- a byte of the source is written after the open block's bytes
 module _ {s : Start} {slice : List ℕ} {read index next : ℕ} {P : Bool → Type 0} (byte : ℕ) (more : read < length s.source) (r : Reaches s slice read index next P) where
@@ -50,6 +53,21 @@ module _ {s : Start} {slice : List ℕ} {read index next : ℕ} {P : Bool → Ty
       let here : take 1 (drop next (set slice next byte)) ≡ take 1 (drop read s.source) = grind (arith, drop-set) in
       let nonzero : HasNoZero (take 1 (drop read s.source)) = rw one (grind arith) in
       Reaches-join written (omega arith) 1 (omega arith) (omega arith) nonzero here (grind arith) (λ z. refl)
+
+-- the next k bytes of the source, which aren't zeros, are copied as one slice, and join the open block
+pub slice-joined : {s : Start} {slice part : List ℕ} {pos index next k n m : ℕ} {P : Bool → Type 0} → Reaches s slice pos index next P
+    → HasNoZero (take k (drop pos s.source)) → pos + k ≤ length s.source → whole_end s ≤ length slice
+    → next + k ≤ index + 255 → n ≡ k → m ≡ k → part ≡ take m (drop pos s.source) → Reaches s (put_mid next n slice part) (pos + k) index (next + k) (λ full. 0 < k → full ≡ false)
+slice-joined {s} {slice} {part} {pos} {index} {next} {k} {n} before nonzero within fits short n-is m-is part-is =
+    let r = Reaches-weaker before {Q = λ _. Unit {0}} (λ full p. tt) in
+    let room = least r in
+    let row = length-chunk pos k s.source (omega arith) in
+    let after : List ℕ = put_mid next n slice part in
+    let is : after ≡ take next slice ++ (take k (drop pos s.source) ++ drop (next + k) slice) = grind (arith, drop-drop) in
+    let long : length slice ≡ length after = grind (arith, length-append, length-take-le, length-drop) in
+    let same : Reaches s after pos index next (λ _. Unit {0}) = grind (arith, Opened-same, front-three, behind-three) in
+    let here : take k (drop next after) ≡ take k (drop pos s.source) = grind (arith, mid-three) in
+    Reaches-join same (omega arith) k (omega arith) short nonzero here (λ full none p lt. absurd (omega arith)) (λ some lt. refl)
 
 -- a step ends: `TakesFront` follows from `Reaches`
 module _ {source old slice : List ℕ} {r r' : Reached} (fits : end_after r source ≤ length slice) where
@@ -109,16 +127,6 @@ front-filled {source} {old} {slice} {r} {r'} {pos} {index} fits full s one is =
 pub front-none : {source slice : List ℕ} {r : Reached} → IsPlaceIn (length slice) r → TakesFront slice r source 0 slice r
 front-none place = record { place = place; after = λ m h. rw append-nil h; end = refl; rest = refl }
 
--- a step, and then another step on the rest of the source
-module _ {slice slice' source left : List ℕ} {r r' : Reached} (n : ℕ) (is : left ≡ drop n source) (a : TakesFront slice r source n slice' r') where
-  -- the end of the frame, counted after the first step, is the same as before it
-  pub left-end : end_after r' left ≡ end_after r source
-  left-end = grind arith
-
-  -- the two steps together have taken n + k bytes
-  pub front-next : {slice'' : List ℕ} {r'' : Reached} (k : ℕ) → TakesFront slice' r' left k slice'' r'' → TakesFront slice r source (n + k) slice'' r''
-  front-next k b = grind (arith, take-add, append_assoc, drop-drop)
-
 -- the whole source is taken
 module _ {slice slice' source : List ℕ} {r r' : Reached} (t : TakesFront slice r source (length source) slice' r') where
   -- the encoder has then taken m and the source
@@ -157,14 +165,8 @@ module _ (slice : List ℕ) (r : Reached) (is : r ≡ place_at 0 1 false) (some 
     pub start-len : end_of r' ≡ encoded_len source
     start-len = all-end t ∙ start-fits source
 
--- the rule set for the tactics of the functions that take a source in steps, such as `append_rest`
-pub ruleset next_steps = (next-least, left-end, front-next, take_rest)
-
--- the rule set for the tactics of the functions that begin with a new encoder, such as `encode_long`
-pub ruleset from_start = (start-fits, start-place, left-end, all-rest, take_rest)
+-- the rule set for the tactics of the functions that begin with a new encoder, such as `encode`
+pub ruleset from_start = (start-fits, start-place, all-rest)
 
 -- the rule set for the tactics of the methods of streaming encoders, such as `push`
 pub ruleset encoder_steps = (end-is, after-end, all-after, all-rest)
-
--- the rule set for the tactics of `push_few`
-pub ruleset few_steps = (all-after, all-rest, after-some, open_len-most)

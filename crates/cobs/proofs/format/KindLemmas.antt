@@ -1,4 +1,4 @@
--- The kind of a frame, found block by block, as `kind_by_blocks` finds it. While whole blocks are skipped, the bytes
+-- The kind of a frame, found block by block, as `frame_kind` finds it. While whole blocks are skipped, the bytes
 -- after them decide of which kind all bytes are (`BlocksBehind`, kept by `one-more`). At the last block, `broken-kind`,
 -- `longer-kind` or `canonical-kind` states the kind. The facts about one block are `front-frame`, `front-canonical` and
 -- `short-frame` of `GrammarLemmas`.

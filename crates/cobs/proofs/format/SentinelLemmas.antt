@@ -2,15 +2,15 @@
 -- (`xor_each-twice`), so each fact about the sentinel 0 holds for every sentinel. The main facts: no frame for a
 -- sentinel contains it (`no_sentinel_for`), and bytes without the sentinel contain no zero after the XOR
 -- (`coded_nonzero`).
-use Rattle.std.proofs.Common.{rules, get_or, ◌≡◌, ◌≢◌, ℕ, zero, suc, length-append, ◌+◌, ◌-◌, ◌<◌, ◌≤◌, List, [], ◌∷◌, length, drop, take, replicate, set, refl, sym, ap, ◌∙◌, subst, arith, take_at}
+use Rattle.std.proofs.Common.{rules, get_or, ◌≡◌, ◌≢◌, ℕ, length-append, ◌+◌, ◌-◌, ◌<◌, ◌≤◌, List, [], ◌∷◌, length, drop, take, set, refl, sym, ap, ◌∙◌, subst, arith, take_at}
 use borrow.Rule.Slice.PartMut.{put_mid}
 use Rattle.std.specs.Int.Bits.{bit_xor, xor_self}
-use Rattle.std.proofs.lemmas.List.{same_lists, places, take-map, drop-map, take_rest}
+use Rattle.std.proofs.lemmas.List.{get_or-map, same_lists, places, take-map, drop-map, take_rest}
 use Rattle.std.proofs.lemmas.List.Elements.{All-map, All-weaker}
 use Rattle.cobs.specs.Grammar.{HasNoZero, IsEncodedFrame, IsFrame}
 use Rattle.cobs.specs.Sentinel.{xor_each, IsEncodedFrameFor, IsDelimitedFrame, IsFreeOf, between_ends}
 use Rattle.cobs.proofs.format.FrameLemmas.{frame_nonzero}
-use Rattle.cobs_bytes.proofs.bytes.XoredLemmas.{xor_twice}
+use Rattle.cobs.proofs.bytes.XoredLemmas.{xor_twice}
 
 -- a second XOR with s restores the bytes
 pub xor_each-twice : (s : ℕ) (f : List ℕ) → xor_each s (xor_each s f) ≡ f
@@ -27,23 +27,16 @@ module _ (bytes : List ℕ) (s : ℕ) where
   pub rest_xored : (i : ℕ) → xor_each s (take (length bytes - i) (drop i bytes)) ≡ drop i (xor_each s bytes)
   rest_xored i = grind (arith, take_rest, drop-map)
 
-  -- the n bytes from index i on
-  pub slice_xored : (i n : ℕ) → xor_each s (take (i + n - i) (drop i bytes)) ≡ take n (drop i (xor_each s bytes))
-  slice_xored i n = grind (arith, take-map, drop-map)
+-- the byte at index i, XORed with s, is a zero if and only if the byte is s
+module _ (bytes : List ℕ) (s i : ℕ) (inside : i < length bytes) where
+  pub coded_at : get_or (xor_each s bytes) i 0 ≡ bit_xor (get_or bytes i 0) s
+  coded_at = grind (arith, get_or-map)
 
-  -- if each of the first n bytes is `bit_xor 1 s`, the first n bytes are ones after the XOR
-  pub ones_xored : (n : ℕ) → take n bytes ≡ replicate n (bit_xor 1 s) → take n (xor_each s bytes) ≡ replicate n 1
-  ones_xored n e = sym (front_xored n) ∙ ap (xor_each s) e ∙ xored_ones n
-    where
-      -- n bytes `bit_xor 1 s` are ones after the XOR
-      xored_ones : (n : ℕ) → xor_each s (replicate n (bit_xor 1 s)) ≡ replicate n 1
-      xored_ones zero = refl
-      xored_ones (suc n) = rw (xor_twice 1 s, xored_ones n) refl
+  pub coded_zero : get_or bytes i 0 ≡ s → get_or (xor_each s bytes) i 0 ≡ 0
+  coded_zero is = grind (arith, coded_at, xor_self)
 
--- the first byte after the XOR
-pub first_xored : (bytes : List ℕ) (s : ℕ) → 0 < length bytes → take 1 (xor_each s bytes) ≡ bit_xor (get_or bytes 0 0) s ∷ []
-first_xored [] s some = grind arith
-first_xored (b ∷ bytes) s some = refl
+  pub coded_some : get_or bytes i 0 ≢ s → get_or (xor_each s bytes) i 0 ≢ 0
+  coded_some other e = other (sym (xor_twice (get_or bytes i 0) s) ∙ ap (λ x. bit_xor x s) (sym coded_at ∙ e))
 
 -- `part` was put into `dest` at index 1, and a zero was set before and after its first n bytes. If the bytes of `part`
 -- after these n bytes are those of `dest`, the bytes after both zeros are those of `dest` too.

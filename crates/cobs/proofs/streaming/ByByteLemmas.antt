@@ -15,7 +15,7 @@ use Rattle.cobs.specs.declared.dec.frame_decoder.PieceEnd.{PieceEnd}
 use Rattle.cobs.proofs.format.StreamLemmas.{fed-nonzero, unended-push, unended-no_zero, ended_pieces-no_zero}
 use Rattle.cobs.proofs.streaming.LastPiece.{overwritten-is, output-longer, last_piece-unended, last_piece-zero, ended_pieces-nonzero}
 use Rattle.cobs.proofs.streaming.SoFar.{takes-nothing, takes-more, TakesBytes-byte, outcome_reported, reported_by, count-within, no_outcomes}
-use Rattle.cobs_bytes.proofs.bytes.ListLemmas.{drop-later}
+use Rattle.cobs.proofs.bytes.ListLemmas.{drop-later}
 
 -- THE RESULT FOR A ZERO
 

@@ -79,7 +79,7 @@ unfolding result_at_end outcome_of is_whole
 result_within n c q left h e = grind (arith, le-leb, ne_eqb)
 
 -- the machine's result for the zero after any front p
-end_result-is : (n : ℕ) (p : List ℕ) → end_result n (phase_after p n) ≡ result_at_end p n
+pub end_result-is : (n : ℕ) (p : List ℕ) → end_result n (phase_after p n) ≡ result_at_end p n
 unfolding phase_after result_at_end
 end_result-is n p = grind (arith, over_phase, outcome_of_long, fits_phase, result_within)
 
@@ -188,7 +188,3 @@ Feeds-as {buffer} {buffer'} {phase} {phase'} {b} returned phase_is buffer_is = g
 -- `Feeds` for a zero: the buffer doesn't change, and the decoder is idle after it
 pub Feeds-zero : (buffer : List ℕ) (phase : Phase) → Feeds buffer phase 0 (end_result (length buffer) phase) buffer Idle
 Feeds-zero buffer phase = Feeds-as refl (grind arith) (grind arith)
-
--- `Feeds` for a nonzero byte of a piece that is too long: the result is an error, and nothing changes
-pub Feeds-overlong : (buffer : List ℕ) (b : ℕ) → b ≢ 0 → Feeds buffer Overlong b (Err TargetBufTooSmall) buffer Overlong
-Feeds-overlong buffer b nz = Feeds-as (grind arith) (grind arith) refl

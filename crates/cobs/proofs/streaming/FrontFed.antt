@@ -1,10 +1,10 @@
 -- The first `run` bytes of a source that begins with a code were fed quietly (`FeedsQuietly`) to an idle decoder: this
--- is `FrontFed`. The proofs of `decode_long`, `decode_piece` and `decode_blocks` use these lemmas; that of
+-- is `FrontFed`. The proofs of `decode_long`, `decode_first` and `decode_blocks` use these lemmas; that of
 -- `decode_blocks` uses them through `kept_stop` of `KeptQuiet`. Either the bytes that were fed end before a zero or at
 -- the source's end, and are its whole first piece (`whole`, `whole-count`); or the buffer has no room for the output of
 -- the next byte of the piece (`over-long`, `over-written`, `over-count`). The bytes have no zero, so they are a front
 -- of the piece (`QuietLemmas`).
-use Rattle.std.proofs.Common.{◌≡◌, ◌≢◌, ◌+◌, ◌<◌, ◌≤◌, ◌++◌, ℕ, List, ◌∷◌, length, take, drop, get_or, arith, length-append, length-take, length-take-le, refl}
+use Rattle.std.proofs.Common.{◌≡◌, ◌≢◌, ◌+◌, ◌<◌, ◌≤◌, ◌++◌, ℕ, List, ◌∷◌, length, take, drop, get_or, arith, length-take, refl}
 use Rattle.std.proofs.lemmas.List.{drop_more, get_or-take, take-append-drop}
 use Rattle.cobs.specs.Feed.{Idle, Overlong, Phase}
 use Rattle.cobs.specs.Grammar.{HasNoZero}
@@ -47,10 +47,6 @@ module _ {source old new : List ℕ} {phase : Phase} {run : ℕ} (f : FrontFed s
     pub whole : Quiet old new phase (head source)
     whole = rw all at front
 
-    -- the number of bytes that were fed is the length of the piece
-    pub whole-count : run ≡ length (head source)
-    whole-count = grind (arith, length-take-le, all)
-
   -- a nonzero byte follows the bytes that were fed, and the buffer has no room for the output of this byte
   module _ (more : run < length source) (other : get_or source run 0 ≢ 0) (over : next_phase (length new) phase (get_or source run 0) ≡ Overlong) where
     -- the bytes of the piece after this byte
@@ -71,7 +67,3 @@ module _ {source old new : List ℕ} {phase : Phase} {run : ℕ} (f : FrontFed s
     -- the buffer is full of the first bytes of this output
     pub over-written : new ≡ overwritten old (output (head source))
     over-written = grind (arith, split, quiet-full, front, tail)
-
-    -- the length of the piece
-    pub over-count : length (head source) ≡ run + 1 + length tail
-    over-count = grind (arith, split, length-append, length-take-le)

@@ -1,14 +1,16 @@
--- Lemmas for `take_to_end`: zeros outside a piece are fed quietly (`FeedsQuietly`; `quiet-zeros`), and a piece is open
+-- Lemmas for `feed_piece`: zeros outside a piece are fed quietly (`FeedsQuietly`; `quiet-zeros`), and a piece is open
 -- after nonzero bytes that are fed quietly (`open-after`, by `stays-open`). The proofs of `quiet-zeros` and
 -- `stays-open` are by induction on the bytes.
-use Rattle.std.proofs.Common.{◌≡◌, ◌≢◌, ℕ, zero, suc, ◌<◌, ◌≤◌, true, false, List, [], ◌∷◌, length, take, refl, arith}
-use Rattle.std.proofs.lemmas.Bool.{ne_eqb, cases_Bool}
+use Rattle.std.proofs.Common.{◌≡◌, ◌≢◌, ℕ, zero, suc, ◌<◌, ◌≤◌, true, false, List, [], ◌∷◌, length, take, None, refl, arith}
+use Rattle.std.proofs.lemmas.Bool.{ne_eqb, cases_Bool, cases_lt}
 use Rattle.std.proofs.lemmas.List.Elements.{All-head, All-tail}
 use Rattle.cobs.specs.Decode.{leading_zeros}
 use Rattle.cobs.specs.Feed.{Phase, Idle, Within, Overlong}
 use Rattle.cobs.specs.Grammar.{HasNoZero}
 use Rattle.cobs.specs.Internal.FeedsQuietly.{FeedsQuietly}
-use Rattle.cobs.specs.Step.{next_phase}
+use Rattle.cobs.specs.FeedPiece.{end_reported}
+use Rattle.cobs.specs.Step.{end_result, next_buffer, next_phase}
+use Rattle.std.proofs.lemmas.List.{set_past}
 
 -- zeros outside a piece are fed quietly
 pub quiet-zeros : (buffer bytes : List ℕ) (n : ℕ) → n ≤ leading_zeros bytes → FeedsQuietly buffer Idle (take n bytes) buffer Idle
@@ -38,3 +40,18 @@ open-after (byte ∷ bytes) buffer buffer' Idle phase' none f some =
     stays-open bytes _ buffer' _ phase' (All-tail (λ b. b ≢ 0) byte bytes none) f.1 (opened (length buffer) Idle byte (grind (arith, All-head)))
 open-after bytes buffer buffer' (Within full left count) phase' none f some = grind (arith, stays-open)
 open-after bytes buffer buffer' Overlong phase' none f some = grind (arith, stays-open)
+
+-- if the buffer has no room for the output of a nonzero byte, the byte doesn't change the buffer
+pub full-buffer : (buffer : List ℕ) (phase : Phase) (byte : ℕ) → byte ≢ 0 → next_phase (length buffer) phase byte ≡ Overlong → next_buffer buffer phase byte ≡ buffer
+full-buffer buffer Idle byte nz over = refl
+full-buffer buffer Overlong byte nz over = refl
+full-buffer buffer (Within full (suc left) count) byte nz over = grind (arith, ne_eqb, set_past, cases_lt)
+full-buffer buffer (Within true zero count) byte nz over = refl
+full-buffer buffer (Within false zero count) byte nz over = grind (arith, ne_eqb, set_past, cases_lt)
+
+-- if a piece has begun, the result for a zero reports the end of a piece
+pub end_begun : (n : ℕ) (phase : Phase) → phase ≢ Idle → end_reported (end_result n phase) ≢ None
+end_begun n Idle begun none = begun refl
+end_begun n Overlong begun none = grind arith
+end_begun n (Within full (suc left) count) begun none = grind arith
+end_begun n (Within full zero count) begun none = grind arith

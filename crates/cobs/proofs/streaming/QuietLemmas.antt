@@ -10,7 +10,7 @@ use Rattle.std.proofs.lemmas.Bool.{cases_Bool, cases_lt, ne_eqb, le-leb, lt-leb,
 use Rattle.cobs.specs.Grammar.{HasNoZero}
 use Rattle.cobs.specs.Piece.{last_part, missing, output, parts, parts_after}
 use Rattle.cobs.specs.Overwritten.{overwritten}
-use Rattle.cobs.specs.Feed.{Phase, Idle, Within, Overlong, phase_after, PhaseAfter, DecoderAfter, fed}
+use Rattle.cobs.specs.Feed.{Phase, Idle, Overlong, phase_after, PhaseAfter, DecoderAfter, fed}
 use Rattle.cobs.specs.declared.dec.unbuffered.UnbufferedDecoder.{UnbufferedDecoder}
 use Rattle.cobs.specs.Fields.Decoders.{phase_of, phase_with}
 use Rattle.cobs.specs.Internal.FeedsQuietly.{FeedsQuietly}
@@ -101,17 +101,6 @@ at-by : (p : List ℕ) (n : ℕ) (going full : Bool) (left count : ℕ) → cond
 unfolding phase_after last_part output parts parts_after
 at-by [] n going full left count e fits = grind arith
 at-by (c ∷ p) n going full left count e fits = grind arith
-
--- if the phase after p is `Within full left count`, and the output of p fits, `count` and `left` are the counts of p
-within-by : (p : List ℕ) (n : ℕ) (full : Bool) (left count : ℕ) → Within full left count ≡ phase_after p n → length (output p) ≤ n
-    → Counts p count left
-unfolding phase_after
-within-by [] n full left count e fits = absurd (cc)
-within-by (c ∷ p) n full left count e fits = grind arith
-
--- the numbers in the phase after p was fed quietly are the counts of p
-pub quiet-within : {old new p : List ℕ} {full : Bool} {left count : ℕ} → Quiet old new (Within full left count) p → Counts p count left
-quiet-within s = grind (arith, within-by)
 
 -- p was fed quietly
 module _ (old new p : List ℕ) (phase : Phase) (s : Quiet old new phase p) where

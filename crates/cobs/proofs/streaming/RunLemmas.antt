@@ -17,7 +17,7 @@ use Rattle.cobs.specs.Step.{next_phase, next_buffer, next_result}
 use Rattle.cobs.specs.Table.{written_in}
 use Rattle.cobs.proofs.streaming.FeedLemmas.{Feeds-step}
 use Rattle.cobs.proofs.streaming.ByByteLemmas.{piece-more, piece-nothing}
-use Rattle.cobs_bytes.proofs.bytes.ListLemmas.{part-nonzero}
+use Rattle.cobs.proofs.bytes.ListLemmas.{part-nonzero}
 
 -- the list `buffer` in which xs is written over the elements from index `count` on
 abbrev pub over : ℕ → List ℕ → List ℕ → List ℕ

@@ -1,9 +1,9 @@
--- Lemmas for the functions of `dec/run.rt`, which take up to 253 bytes at once: they write the bytes after the output,
+-- Lemmas for the functions of `dec/run.rt`, which take up to 254 bytes at once: they write the bytes after the output,
 -- with a zero over each code (`walked`). `IsSpan` says which bytes may be taken so, and `open_fed` says that this has
--- the effect of feeding them; it is by `fed_walked`. From it follow `block_fed` for bytes of the open block, `row_fed`
--- for blocks that each have the code 1, and `kept` and `marked` for bytes that were copied or moved after the output.
-use Rattle.std.proofs.Common.{◌≡◌, ◌≢◌, ℕ, zero, suc, ◌+◌, ◌-◌, ◌<◌, ◌≤◌, eqb, List, [], ◌∷◌, ◌++◌, length, take, drop, refl, sym, ◌∙◌, arith, length-take-le, length-drop, replicate, take-append-drop, take_all}
-use Rattle.std.proofs.lemmas.List.{append-nil, drop_all, drop-drop, length-replicate, take_rest, take-append-drop}
+-- the effect of feeding them; it is by `fed_walked`. From it follow `block_fed` for bytes of the open block, and `kept`
+-- and `marked` for bytes that were copied or moved after the output.
+use Rattle.std.proofs.Common.{◌≡◌, ◌≢◌, ℕ, zero, suc, ◌+◌, ◌-◌, ◌<◌, ◌≤◌, eqb, List, [], ◌∷◌, ◌++◌, length, take, drop, get_or, refl, sym, ◌∙◌, arith, length-take-le, length-drop, take-append-drop, take_all}
+use Rattle.std.proofs.lemmas.List.{append-nil, drop_all, drop-drop, take_more, take_rest, take-append-drop}
 use Rattle.std.proofs.Math.Seq.{drop-append_seam, take-add, take-append_seam}
 use Rattle.std.proofs.lemmas.Bool.{ne_eqb}
 use borrow.Rule.Slice.PartMut.{put_mid}
@@ -17,8 +17,7 @@ use Rattle.cobs.specs.Internal.Walk.{walked}
 use Rattle.cobs.specs.Sentinel.{xor_each}
 use Rattle.cobs.specs.Step.{next_phase, next_buffer}
 use Rattle.cobs.proofs.streaming.RunLemmas.{over, phase_with-begun}
-use Rattle.cobs.proofs.streaming.WalkLemmas.{walked-append, fed_walked, length-walked, walked-past, walked-any, IsWalked}
-use Rattle.cobs_bytes.proofs.bytes.ListLemmas.{ones-nonzero}
+use Rattle.cobs.proofs.streaming.WalkLemmas.{fed_walked, length-walked, walked-past, walked-any, IsWalked}
 
 -- if the bytes xs are fed quietly (`FeedsQuietly`), and then the bytes ys, then xs ++ ys are fed quietly
 pub FeedsQuietly-append : (xs ys buffer buffer' buffer'' : List ℕ) (phase phase' phase'' : Phase)
@@ -32,6 +31,12 @@ FeedsQuietly-append (x ∷ xs) ys buffer buffer' buffer'' phase phase' phase'' f
 pub FeedsQuietly-more : (bytes buffer buffer' buffer'' : List ℕ) (phase phase' phase'' : Phase) (run more : ℕ) → FeedsQuietly buffer phase (take run bytes) buffer' phase'
     → FeedsQuietly buffer' phase' (take more (drop run bytes)) buffer'' phase'' → FeedsQuietly buffer phase (take (run + more) bytes) buffer'' phase''
 FeedsQuietly-more bytes buffer buffer' buffer'' phase phase' phase'' run more f g = grind (arith, take-add, FeedsQuietly-append)
+
+-- if the first i bytes are fed quietly, and then the byte at index i, the first i + 1 bytes are fed quietly
+pub FeedsQuietly-byte : (bytes buffer buffer' buffer'' : List ℕ) (phase phase' phase'' : Phase) (i byte : ℕ) → i < length bytes → get_or bytes i 0 ≡ byte → FeedsQuietly buffer phase (take i bytes) buffer' phase'
+    → FeedsQuietly buffer' phase' (byte ∷ []) buffer'' phase'' → FeedsQuietly buffer phase (take (i + 1) bytes) buffer'' phase''
+FeedsQuietly-byte bytes buffer buffer' buffer'' phase phase' phase'' i byte inside is f g =
+    rw (take_more bytes i 0 inside, is) (FeedsQuietly-append (take i bytes) (byte ∷ []) _ _ _ _ _ _ f g)
 
 -- `ys` replaces the bytes of `dest` from index `at` on. If `ys` is these bytes with xs written over the first n of
 -- them, the result is `dest` with xs written over its n bytes from index `at` on.
@@ -124,36 +129,6 @@ block_fed inner (suc run) dest bytes new going most room within nz is =
     let fed = open_fed s inner.joint (sym past) (code_by-full inner.joint) in
     grind arith
 
--- `walked` of n bytes that are all the code 1, after a block with the code 1: each of the n codes becomes a zero
-row_ones : (n : ℕ) → walked 1 0 (replicate n 1) ≡ (replicate n 0, 1, 0)
-row_ones zero = refl
-row_ones (suc n) = grind (arith, row_ones n)
-
--- `walked` of bytes of which the first n are all the code 1, after a block with the code 1: each of these n codes
--- becomes a zero, and then the other bytes are walked over
-pub row_walked : (n : ℕ) (bytes : List ℕ) → take n bytes ≡ replicate n 1
-    → walked 1 0 bytes ≡ let w = walked 1 0 (drop n bytes) in (replicate n 0 ++ w.0, w.1, w.2)
-row_walked n bytes ones =
-    -- the walk over the first n bytes, and then over the others (`walked-append`)
-    let front = walked-append 1 0 (take n bytes) (drop n bytes) in
-    grind (arith, row_ones, take-append-drop)
-
--- If each of the next n bytes is the code 1, and the block before them is whole and not full, n zeros are written after
--- the output. This has the effect of feeding the codes.
-pub row_fed : (n : ℕ) (inner : UnbufferedDecoder) (dest bytes new : List ℕ) → 0 < n → n < 254 → inner.too_long ≡ 0 → inner.missing ≡ 0 → inner.joint ≢ 0 → inner.written + n ≤ length dest → take n bytes ≡ replicate n 1
-    → new ≡ take inner.written dest ++ (replicate n 0 ++ drop (inner.written + n) dest)
-    → FeedsQuietly dest (phase_of inner) (take n bytes) new (phase_of (moved_on inner n inner.missing inner.joint))
-row_fed n inner dest bytes new some few going none due room ones is =
-    let code : ℕ = code_by inner.joint in
-    let long : length (replicate {A = ℕ} n 1) ≡ n = length-replicate {A = ℕ} n 1 in
-    let s : IsSpan inner n dest (replicate n 1)
-    = record { room = room; long = long; going = going; full = λ e. absurd (due e); nonzero = ones-nonzero n; some = some; few = λ _. few } in
-    -- the block before the codes may have any code that isn't 255
-    let same = walked-any 1 code 0 (replicate n 1) (omega arith) in
-    -- the walk over n codes 1 makes n zeros of them (`row_ones`), as `open_fed` needs
-    let fed = open_fed s inner.joint {ys = replicate n 0} {code = 1} {left = 0} (grind (arith, row_ones)) (grind arith) in
-    grind (arith, length-replicate)
-
 -- the number that `joint_after` returns for a code is 0 if and only if the code is 255
 pub joint-is : (code joint : ℕ) → (code ≡ 255 → joint ≡ 0) → (code ≢ 255 → joint ≡ 1) → eqb joint 0 ≡ eqb code 255
 joint-is code joint full other = grind (arith, ne_eqb)
@@ -161,7 +136,7 @@ joint-is code joint full other = grind (arith, ne_eqb)
 -- the `len` bytes xs were copied or moved to the place after the output, that is, to index `written`: `before` is the
 -- buffer before this, and `dest` is the buffer after it
 module _ (inner : UnbufferedDecoder) (len : ℕ) (dest : List ℕ) (nz : HasNoZero (take len (drop inner.written dest))) (before xs : List ℕ) (room : inner.written + len ≤ length before) (long : length xs ≡ len)
-    (is : dest ≡ take inner.written before ++ (xs ++ drop (inner.written + len) before)) (going : inner.too_long ≡ 0) (full : inner.joint ≡ 0 → len ≤ inner.missing) (few : (0 < len) × (len < 254)) where
+    (is : dest ≡ take inner.written before ++ (xs ++ drop (inner.written + len) before)) (going : inner.too_long ≡ 0) (full : inner.joint ≡ 0 → len ≤ inner.missing) (few : (0 < len) × (inner.missing < len → len < 254)) where
   -- the `len` bytes of `dest` after the output, which are xs (`part-is`)
   abbrev part : List ℕ
   part = take (inner.written + len - inner.written) (drop inner.written dest)
@@ -199,7 +174,7 @@ module _ (inner : UnbufferedDecoder) (len : ℕ) (dest : List ℕ) (nz : HasNoZe
   pub marked : inner.missing < len → (ys : List ℕ) (last left joint : ℕ) → IsWalked ys last left (inner.missing + 1) (inner.missing + 1 - 1) part → eqb joint 0 ≡ eqb last 255
       → FeedsQuietly before (phase_of inner) xs (put_mid inner.written (inner.written + len - inner.written) dest ys) (phase_of (moved_on inner len left joint))
   marked more ys last left joint e due =
-      let s : IsSpan inner len before xs = record { room = room; long = long; going = going; full = full; nonzero = nonzero; some = few.0; few = λ _. few.1 } in
+      let s : IsSpan inner len before xs = record { room = room; long = long; going = going; full = full; nonzero = nonzero; some = few.0; few = few.1 } in
       -- the walk may also begin from the code `code` (`own`), as `open_fed` needs
       let w = e ∙ own more in
       rw (written_over s joint w due dest dest-is) (open_fed s joint w due)

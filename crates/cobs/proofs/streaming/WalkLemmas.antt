@@ -2,17 +2,16 @@
 -- an open block, this is what the decoder writes (`fed_walked`, by induction on the bytes). For the bytes after the
 -- first code of a piece it is the output of the piece (`as_piece`, by `quiet`). The other lemmas compute `walked`: in
 -- two parts (`walked-append`), before the next code (`walked-past`), and at the next code (`walked-next`).
-use Rattle.std.proofs.Common.{◌≡◌, ◌≢◌, ℕ, zero, suc, ◌+◌, ◌-◌, ◌<◌, ◌≤◌, eqb, List, [], ◌∷◌, ◌++◌, length, take, drop, get_or, set, refl, ap, ◌∙◌, arith, append_assoc, append-nil, length-set, length-drop, length-take-le, take-append-drop, take_all}
-use Rattle.std.proofs.lemmas.List.{drop_all, drop_more, drop-set-lt, take_more_set}
+use Rattle.std.proofs.Common.{◌≡◌, ◌≢◌, ℕ, zero, suc, ◌+◌, ◌-◌, ◌<◌, ◌≤◌, eqb, List, [], ◌∷◌, ◌++◌, length, take, drop, get_or, set, refl, sym, ap, ◌∙◌, arith, append_assoc, append-nil, length-set, length-drop, length-take, length-take-le, take-append-drop, take_all}
+use Rattle.std.proofs.lemmas.List.{drop_all, drop-drop, drop_more, drop-set-lt, take_more, take_more_set}
+use Rattle.std.proofs.Math.Seq.{take-add}
 use Rattle.std.proofs.lemmas.List.Elements.{All-head, All-tail, All-cons, All-get_or, All-drop}
 use Rattle.std.proofs.lemmas.Bool.{ne_eqb, lt-ltb}
 use borrow.Rule.Slice.PartMut.{put_mid}
 use Rattle.cobs.specs.Grammar.{HasNoZero}
-use Rattle.cobs.specs.Feed.{Idle, Within}
+use Rattle.cobs.specs.Feed.{Within}
 use Rattle.cobs.specs.Internal.FeedsQuietly.{FeedsQuietly}
 use Rattle.cobs.specs.Internal.Walk.{walked}
-use Rattle.cobs.specs.Piece.{output, last_part, missing}
-use Rattle.cobs.proofs.streaming.QuietLemmas.{quiet, quiet-within}
 use Rattle.cobs.proofs.streaming.RunLemmas.{over, over-cons}
 
 -- `ys` are the bytes with a zero over each code, `code` is the last code, and `left` bytes of its block are missing;
@@ -44,32 +43,6 @@ fed_walked (x ∷ xs) buffer code zero count nz full few room =
     let rest = fed_walked xs (set buffer count 0) x (x - 1) (count + 1) (All-tail (λ b. b ≢ 0) x xs nz)
     (λ e. omega (arith, few (omega arith))) (λ h. omega (arith, few (omega arith))) (omega (arith, length-set buffer count 0)) in
     grind (arith, All-head, length-set, over, ne_eqb, lt-ltb, over-cons)
-
--- if the first code of a piece and fewer than 254 bytes after it are fed to an idle decoder, the bytes after the first
--- code are written with a zero over each code
-pub fed_piece : (first : ℕ) (bytes buffer : List ℕ) {ys : List ℕ} {code left : ℕ}
-    → IsWalked ys code left first (first - 1) bytes → length bytes < 254 → HasNoZero (first ∷ bytes) → length bytes ≤ length buffer
-    → FeedsQuietly buffer Idle (first ∷ bytes) (over 0 buffer ys) (Within (eqb code 255) left (length bytes))
-fed_piece first bytes buffer w few nz room =
-    let some = All-head (λ b. b ≢ 0) first bytes nz in
-    -- after the code `first`, `first - 1` bytes of its block are missing, and there is no output yet
-    let fed = fed_walked bytes buffer first (first - 1) 0 (All-tail (λ b. b ≢ 0) first bytes nz) (λ e. omega arith) (λ h. few) (omega (arith, room)) in
-    grind arith
-
--- the bytes after the first code of a piece, with a zero over each code, are the output of the piece; `left` bytes of
--- its last part are missing
-pub as_piece : (first : ℕ) (bytes : List ℕ) {ys : List ℕ} {code left : ℕ} → IsWalked ys code left first (first - 1) bytes → length bytes < 254 → HasNoZero (first ∷ bytes)
-    → (ys ≡ output (first ∷ bytes)) × (left ≡ missing (last_part (first ∷ bytes)))
-as_piece first bytes {ys} {code} {left} w few nz =
-    let fed = fed_piece first bytes bytes w few nz (omega arith) in
-    let q = quiet (first ∷ bytes) bytes (over 0 bytes ys) (Within (eqb code 255) left (length bytes)) nz fed in
-    let counts = quiet-within q in
-    let long : length ys ≡ length bytes = ap (λ (v : List ℕ × ℕ × ℕ). length v.0) w ∙ length-walked first (first - 1) bytes in
-    -- the output has as many bytes as `ys`, and the decoder has written both, so they are equal
-    let all : length (output (first ∷ bytes)) ≡ length ys = omega (arith, counts.0, long) in
-    let whole : over 0 bytes ys ≡ ys = rw (drop_all (0 + length ys) bytes (omega (arith, long))) (append-nil ys) in
-    let begins = rw whole at q.after.begins in
-    grind (arith, take_all)
 
 -- `walked` of xs and ys: first of xs, and then of ys from the last code of xs on
 pub walked-append : (code n : ℕ) (xs ys : List ℕ) → walked code n (xs ++ ys) ≡ let w = walked code n xs in let v = walked w.1 w.2 ys in (w.0 ++ v.0, v.1, v.2)
@@ -122,3 +95,51 @@ module _ (first : ℕ) (bytes : List ℕ) (some : 0 < first) (more : first ≤ l
       let cut : bytes ≡ take (first - 1) bytes ++ (next ∷ drop first bytes) = grind (arith, take-append-drop, drop_more) in
       let put : put_mid first (length marked - first) marked ys ≡ take (first - 1) bytes ++ (0 ∷ ys) = grind (arith, drop_all, length-drop, take_more_set, append-nil, append_assoc) in
       grind (arith, walked-append, front)
+
+-- The walk over the bytes before index `at` is done, and its last block ends there. `now` are the bytes with a zero over
+-- each code so far. The byte at `at` is the next code: a zero is written over it, and the walk is done over its block.
+module _ (first code at : ℕ) (bytes now : List ℕ) (inside : at < length bytes) (same : length now ≡ length bytes)
+    (done : IsWalked (take at now) code 0 first (first - 1) (take at bytes)) (rest : drop at now ≡ drop at bytes) where
+  -- the next code
+  abbrev here : ℕ
+  here = get_or now at 0
+
+  cons-same : here ∷ drop (at + 1) now ≡ get_or bytes at 0 ∷ drop (at + 1) bytes
+  cons-same = sym (drop_more now at 0 (omega arith)) ∙ rest ∙ drop_more bytes at 0 inside
+
+  -- the code is as it was
+  pub code-same : here ≡ get_or bytes at 0
+  code-same = let e = cons-same in cc
+
+  pub code-some : HasNoZero bytes → 0 < here
+  code-some nz = omega (arith, code-same, All-get_or (λ b. b ≢ 0) bytes at 0 inside nz)
+
+  module _ (some : 0 < here) where
+    -- the other bytes of its block, as many as there are
+    abbrev block : List ℕ
+    block = take (here - 1) (drop (at + 1) bytes)
+
+    -- the bytes after this code are as they were
+    after : drop (at + 1) now ≡ drop (at + 1) bytes
+    after = let e = cons-same in cc
+
+    split : at + here ≡ at + 1 + (here - 1)
+    split = omega arith
+
+    cut : take (at + here) bytes ≡ take at bytes ++ (here ∷ block)
+    cut = rw (split, take-add (at + 1) (here - 1) bytes, take_more bytes at 0 inside, append_assoc, sym code-same) refl
+
+    put : take (at + here) (set now at 0) ≡ take at now ++ (0 ∷ block)
+    put = rw (split, take-add (at + 1) (here - 1) (set now at 0), take_more_set now at 0 (omega arith), drop-set-lt (at + 1) now at 0 (omega arith), after, append_assoc) refl
+
+    long : length block ≤ here - 1
+    long = omega (arith, length-take {A = ℕ})
+
+    left : at + here - length (set now at 0) ≡ here - 1 - length block
+    left = omega (arith, length-take (here - 1) (drop (at + 1) bytes), length-drop (at + 1) bytes, length-set now at 0)
+
+    pub walked-on : IsWalked (take (at + here) (set now at 0)) here (at + here - length (set now at 0)) first (first - 1) (take (at + here) bytes)
+    walked-on = rw (cut, put, left) (grind (arith, walked-append, walked-past, long))
+
+    pub rest-on : drop (at + here) (set now at 0) ≡ drop (at + here) bytes
+    rest-on = drop-set-lt (at + here) now at 0 (omega arith) ∙ ap (λ n. drop n now) split ∙ sym (drop-drop (here - 1) (at + 1) now) ∙ ap (drop (here - 1)) after ∙ drop-drop (here - 1) (at + 1) bytes ∙ ap (λ n. drop n bytes) (sym split)

@@ -1,6 +1,5 @@
 -- The effect of a step of the encoder that encodes the front of a source.
-use Rattle.std.specs.Prelude.{◌≡◌, ◌<◌, ◌≤◌, ℕ, List, ◌++◌, length, take, drop, slice_index}
-use Rattle.cobs.specs.Grammar.{HasNoZero}
+use Rattle.std.specs.Prelude.{◌≡◌, ℕ, List, ◌++◌, length, take, drop}
 use Rattle.cobs.specs.OpenBlock.{Reached, CobsEncoderAfter, IsPlaceIn, end_after}
 
 -- A step has encoded the first n bytes of a source, and has changed the slice and the progress of the frame to `slice'`
@@ -11,10 +10,3 @@ pub record TakesFront (slice : List ℕ) (reached : Reached) (source : List ℕ)
   pub after : (m : List ℕ) → CobsEncoderAfter slice reached m → CobsEncoderAfter slice' reached' (m ++ take n source)
   pub end : end_after reached' (drop n source) ≡ end_after reached source
   pub rest : drop (end_after reached source) slice' ≡ drop (end_after reached source) slice
-
--- the source begins with a run of this many bytes: these bytes aren't zeros, and a zero or the end of the source
--- follows them
-pub record IsFirstRun (run : ℕ) (source : List ℕ) : Type 0 where
-  pub within : run ≤ length source
-  pub nonzero : HasNoZero (take run source)
-  pub stop : run < length source → slice_index source run ≡ 0

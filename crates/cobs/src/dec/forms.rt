@@ -9,14 +9,11 @@ ghost use Rattle.cobs.specs.Sentinel.{xor_each};
 ghost use Rattle.cobs.specs.Stream.{head};
 ghost use Rattle.cobs.specs.declared.error.DecodeError.TheVariants.{EmptyFrame, TargetBufTooSmall};
 
-use crate::block::FULL_BLOCK_BYTES;
 use crate::dec::decode;
-use crate::dec::each::decode_head_each;
-use crate::dec::span::{decode_span, kept_len, message_len};
+use crate::dec::span::{kept_len, message_len};
 use crate::dec::unbuffered::START;
 use crate::error::{DecodeError, DecodeVecError};
-use crate::find::{len_without_end, position_or_len};
-use cobs_bytes::window::{WIDE_WINDOW, has_vectors};
+use crate::find::position_or_len;
 use std::alloc::Global;
 
 /// Decodes a source that contains no sentinel, and returns the message's length in bytes.
@@ -25,16 +22,9 @@ fn decode_blocks(source: &[u8], dest: &mut [u8], sentinel: u8) -> Result<usize, 
     ensures returned { result ≡ head_result_within (xor_each sentinel source.now) (length dest.old) }
     ensures buffer { dest.new ≡ overwritten dest.old (kept_output (xor_each sentinel source.now)) }
 {
-    // A block has at most 255 bytes. So each block that begins before the last 254 bytes of the source is whole, and
-    // the bytes before the last 254 bytes need no test. Before the last 254 bytes are decoded, `kept_len` finds out
-    // whether the last block is broken.
-    let tail = source.len().saturating_sub(FULL_BLOCK_BYTES);
+    let (len, whole) = kept_len(source, sentinel);
     let mut progress = START;
-    if progress.take_blocks(dest, &source[..tail], sentinel) < tail {
-        return Err(DecodeError::TargetBufTooSmall);
-    }
-    let (len, whole) = kept_len(&source[tail..], progress.missing as usize, sentinel);
-    if progress.take_blocks(dest, &source[tail..tail + len], sentinel) < len {
+    if progress.take_blocks(dest, &source[..len], sentinel) < len {
         return Err(DecodeError::TargetBufTooSmall);
     }
     message_len(progress.written, whole)
@@ -80,19 +70,8 @@ pub fn decode_with_sentinel(
     ensures only { let f = xor_each sentinel source.now in IsPiece f → (m : List ℕ)
         → ReturnsMessage result dest.new m → Reads f m × (length m ≤ length dest.old) }
 {
-    if !has_vectors() {
-        return decode_head_each(source, dest, sentinel);
-    }
     if source.is_empty() {
         return Err(DecodeError::EmptyFrame);
-    }
-    let len = len_without_end(source, sentinel);
-    // If the frame is broken, the bytes of `dest` after the output must stay unchanged. So a short frame is first
-    // decoded into the local buffer `short`.
-    let mut short = [0; WIDE_WINDOW];
-    if len <= dest.len() + 1 && decode_span(&source[..len], &mut short, sentinel) == Some(0) {
-        dest[..len - 1].copy_from_slice(&short[..len - 1]);
-        return Ok(len - 1);
     }
     let end = position_or_len(source, sentinel);
     decode_blocks(&source[..end], dest, sentinel)

@@ -1,9 +1,9 @@
 //! Finds out whether some bytes are a frame, and whether the frame is the one that encoders write for its message.
 ghost use Rattle.std.specs.Prelude.{◌≡◌, ◌↔◌};
-ghost use Rattle.cobs.specs.Grammar.{HasNoZero, IsCanonical, IsFrame};
+ghost use Rattle.cobs.specs.Grammar.{IsCanonical, IsFrame};
 
 use crate::block::FULL_CODE;
-use crate::find::zero_or_len;
+use crate::find::position_or_len;
 
 /// Says whether some bytes are a frame, and whether the frame is the one that encoders write for its message. The Rust
 /// crate `cobs` has no such type.
@@ -49,27 +49,9 @@ pub fn frame_kind(bytes: &[u8]) -> FrameKind
     ensures canonical { (result ≡ FrameKind.Canonical) ↔ IsCanonical bytes.now }
     ensures longer { (result ≡ FrameKind.Longer) ↔ (IsFrame bytes.now × ¬ IsCanonical bytes.now) }
 {
-    if zero_or_len(bytes) < bytes.len() {
+    if position_or_len(bytes, 0) < bytes.len() {
         return FrameKind::NotAFrame;
     }
-    kind_by_blocks(bytes)
-}
-
-/// Returns whether the bytes are a frame, and which kind of frame, as [`frame_kind`] does. This function reads only the
-/// code of each block, and doesn't search the other bytes for a zero. The Rust crate `cobs` has no such call.
-///
-/// Precondition: no byte is a zero.
-///
-/// ```
-/// assert_eq!(rt; kind_by_blocks(&[3, 7, 8, 1]), FrameKind::Canonical);
-/// assert_eq!(rt; kind_by_blocks(&[3, 7]), FrameKind::NotAFrame);
-/// ```
-pub fn kind_by_blocks(bytes: &[u8]) -> FrameKind
-    requires nonzero { HasNoZero bytes.now }
-    ensures not_a_frame { (result ≡ FrameKind.NotAFrame) ↔ ¬ IsFrame bytes.now }
-    ensures canonical { (result ≡ FrameKind.Canonical) ↔ IsCanonical bytes.now }
-    ensures longer { (result ≡ FrameKind.Longer) ↔ (IsFrame bytes.now × ¬ IsCanonical bytes.now) }
-{
     let mut read = 0;
     let mut after_full = false;
     'by_block: while read < bytes.len() {

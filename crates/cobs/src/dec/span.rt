@@ -1,175 +1,48 @@
 //! Functions that go from code to code through a part of a piece. The part is either a copy of some bytes, or the last
 //! bytes of the piece.
-ghost use Rattle.std.specs.Prelude.{◌≡◌, ◌+◌, ◌-◌, ◌<◌, ◌≤◌, ◌∷◌, ◌++◌, ◌↔◌, length, take, drop, replicate, false, IsTrue, IfSome, IsSome, List, None, Ok, Err, ℕ};
+ghost use Rattle.std.specs.Prelude.{◌≡◌, ◌-◌, ◌<◌, ◌≤◌, ◌∷◌, ◌↔◌, length, take, false, IsTrue, Ok, Err};
 ghost use Rattle.cobs.specs.Grammar.{HasNoZero};
 ghost use Rattle.cobs.specs.Internal.Walk.{walked};
 ghost use Rattle.cobs.specs.Piece.{kept_output, last_part, missing, output};
 ghost use Rattle.cobs.specs.Sentinel.{xor_each};
 ghost use Rattle.cobs.specs.declared.error.DecodeError.TheVariants.{InvalidFrame};
 
-use crate::block::FULL_BLOCK_BYTES;
 use crate::error::DecodeError;
-use cobs_bytes::lanes::copy_xored_short;
-use cobs_bytes::window::{WIDE_WINDOW, WINDOW, is_all, write_row};
-
-/// The greatest number of bytes in a span. A full block is longer than a span. So if a full block begins in a span, the
-/// next block's code isn't in that span.
-pub(crate) const SPAN_MAX: usize = FULL_BLOCK_BYTES - 1;
 
 /// Writes a zero over each code in `dest`. `dest` contains the bytes of a piece that follow the code `first`. If no
 /// code in `dest` follows a full block, `dest` then contains the output of these bytes. (The output has no zero after a
 /// full block.) Returns the code of the last block, and how many bytes of this block are missing.
-// Compilers turn this recursion into a loop that advances the address of the remaining bytes. A loop over an index
-// would add the index to an address before each load. Since the load of each code waits for the preceding code, this
-// addition would cost a cycle per code.
 #[inline(always)]
 pub(crate) fn write_zeros_at_codes(dest: &mut [u8], first: usize) -> (u8, u8)
     requires byte { first < 256 }
     requires nonzero { HasNoZero (first ∷ dest.old) }
     ensures { (dest.new, result.0, result.1) ≡ walked first (first - 1) dest.old }
 {
-    if dest.len() < first {
-        return (first as u8, (first - 1 - dest.len()) as u8);
+    let mut code = first;
+    // The index of the next code.
+    let mut at = first - 1;
+    'by_code: while at < dest.len() {
+        code = dest[at] as usize;
+        dest[at] = 0;
+        at += code;
     }
-    let code = dest[first - 1];
-    dest[first - 1] = 0;
-    write_zeros_at_codes(&mut dest[first..], code as usize)
+    (code as u8, (at - dest.len()) as u8)
 }
 
-/// Writes a zero over each code in `dest`, as [`write_zeros_at_codes`] does. Before the call, `dest` contains the bytes
-/// of `copied`, each XORed with `sentinel`. The codes are read from `copied`, because a load from `dest` would have to
-/// wait until the copy is stored.
-#[inline(always)]
-pub(crate) fn write_zeros_at_copied(
-    dest: &mut [u8],
-    copied: &[u8],
-    first: usize,
-    sentinel: u8,
-) -> (u8, u8)
-    requires byte { first < 256 }
-    requires copied { dest.old ≡ xor_each sentinel copied.now }
-    requires nonzero { HasNoZero (first ∷ dest.old) }
-    ensures { (dest.new, result.0, result.1) ≡ walked first (first - 1) dest.old }
-{
-    if copied.len() < first {
-        return (first as u8, (first - 1 - copied.len()) as u8);
-    }
-    let at = first - 1;
-    let code = copied[at] ^ sentinel;
-    dest[at] = 0;
-    write_zeros_at_copied(
-        &mut dest[first..],
-        &copied[first..],
-        code as usize,
-        sentinel,
-    )
-}
-
-/// Decodes up to seven rows from the front of `bytes`, and returns the number of bytes that it decoded. A row consists
-/// of 32 blocks, each with the code 01. `byte` is this code, XORed with the sentinel. For each code, the function
-/// writes a zero to `dest`, from index `at` on. It stops if the next 32 bytes aren't a row, or if `dest` has no room
-/// for another row. The limit is seven rows, because eight rows would be longer than a span.
-#[inline(always)]
-pub(crate) fn write_rows(dest: &mut [u8], at: usize, bytes: &[u8], byte: u8) -> usize
-    ensures within { result ≤ length bytes.now }
-    ensures few { result < 254 }
-    ensures room { 0 < result → at + result ≤ length dest.old }
-    ensures rows { take result bytes.now ≡ replicate result byte }
-    ensures written { dest.new ≡ take at dest.old ++ (replicate result 0 ++ drop (at + result) dest.old) }
-    ensures kept { result ≡ 0 → dest.new ≡ dest.old }
-{
-    let most = bytes.len().min(dest.len().saturating_sub(at)).min(SPAN_MAX);
-    let mut len = 0;
-    'by_row: while WINDOW <= most - len && is_all(bytes, len, byte) {
-        write_row(dest, at + len, 0);
-        len += WINDOW;
-    }
-    len
-}
-
-/// Writes a zero over each code in `dest`, as [`write_zeros_at_copied`] does. If `dest` begins with rows of 32 blocks,
-/// each with the code 01, the function writes the zeros of each row in one step.
-// It would be slower to go through a row from code to code, because each load would wait for the preceding load. The
-// function looks for rows only at the front of `dest`, because a test after each code would take longer than decoding
-// the code.
-#[inline(always)]
-pub(crate) fn write_zeros_by_rows(
-    dest: &mut [u8],
-    copied: &[u8],
-    first: usize,
-    sentinel: u8,
-) -> (u8, u8)
-    requires byte { first < 256 }
-    requires copied { dest.old ≡ xor_each sentinel copied.now }
-    requires nonzero { HasNoZero (first ∷ dest.old) }
-    ensures { (dest.new, result.0, result.1) ≡ walked first (first - 1) dest.old }
-{
-    if WINDOW <= copied.len() && first == 1 {
-        let taken = write_rows(dest, 0, copied, 1 ^ sentinel);
-        if taken != 0 {
-            return write_zeros_at_copied(&mut dest[taken..], &copied[taken..], 1, sentinel);
-        }
-    }
-    write_zeros_at_copied(dest, copied, first, sentinel)
-}
-
-/// Decodes a source of 2 to 65 bytes that was encoded with `sentinel`, and returns how many bytes of the source's last
-/// block are missing. The output has one byte fewer than the source, and the bytes of `dest` after the output are
-/// unchanged. Returns `None` and changes nothing if the source has fewer than 2 or more than 65 bytes, if one of its
-/// bytes is the sentinel, or if `dest` is shorter than the output.
-#[inline(always)]
-pub(crate) fn decode_span(source: &[u8], dest: &mut [u8], sentinel: u8) -> Option<u8>
-    ensures taken { (2 ≤ length source.now) × (length source.now ≤ 65) → length source.now ≤ length dest.old + 1
-        → HasNoZero (xor_each sentinel source.now) → IsSome result }
-    ensures some { IfSome result (λ left. 2 ≤ length source.now) }
-    ensures few { IfSome result (λ left. length source.now ≤ 65) }
-    ensures nonzero { IfSome result (λ left. HasNoZero (xor_each sentinel source.now)) }
-    ensures len { IfSome result (λ left. length (output (xor_each sentinel source.now)) + 1 ≡ length source.now) }
-    ensures room { IfSome result (λ left. length source.now ≤ length dest.old + 1) }
-    ensures left { IfSome result (λ left. left ≡ missing (last_part (xor_each sentinel source.now))) }
-    ensures begins { IfSome result (λ left. take (length source.now - 1) dest.new
-        ≡ output (xor_each sentinel source.now)) }
-    ensures rest { drop (length source.now - 1) dest.new ≡ drop (length source.now - 1) dest.old }
-    ensures kept { result ≡ None → dest.new ≡ dest.old }
-{
-    let len = source.len();
-    if len < 2 || WIDE_WINDOW + 1 < len || dest.len() < len - 1 || source[0] == sentinel {
-        return None;
-    }
-    if !copy_xored_short(&source[1..], dest, sentinel) {
-        return None;
-    }
-    let first = (source[0] ^ sentinel) as usize;
-    let (_, left) = write_zeros_by_rows(&mut dest[..len - 1], &source[1..], first, sentinel);
-    Some(left)
-}
-
-/// Returns how many of `bytes`, the last bytes of a piece, have to be decoded, and whether the piece is whole. A whole
-/// piece is decoded to its end. A broken piece is decoded up to and including the code of its last block, because the
-/// kept output doesn't include the other bytes of that block. The first `left` bytes of `bytes` belong to a block that
-/// began before `bytes`. Each byte of `bytes` is XORed with the sentinel before it is read.
-pub(crate) fn kept_len(bytes: &[u8], left: usize, sentinel: u8) -> (usize, bool)
-    requires left { left ≤ length bytes.now }
+/// Returns how many bytes of a piece have to be decoded, and whether the piece is whole. A whole piece is decoded to its
+/// end. A broken piece is decoded up to and including the code of its last block, because the kept output doesn't
+/// include the other bytes of that block. Each byte of the piece is XORed with the sentinel before it is read.
+pub(crate) fn kept_len(bytes: &[u8], sentinel: u8) -> (usize, bool)
     requires nonzero { HasNoZero (xor_each sentinel bytes.now) }
     ensures within { result.0 ≤ length bytes.now }
-    // `bytes` are the bytes of the piece `p` from index `start` on.
-    ensures kept { (p : List ℕ) (start : ℕ) → drop start p ≡ xor_each sentinel bytes.now
-        → missing (last_part (take start p)) ≡ left → output (take (start + result.0) p) ≡ kept_output p }
-    ensures whole { (p : List ℕ) (start : ℕ) → drop start p ≡ xor_each sentinel bytes.now
-        → missing (last_part (take start p)) ≡ left → (IsTrue result.1 ↔ (missing (last_part p) ≡ 0)) }
+    ensures kept { let p = xor_each sentinel bytes.now in output (take result.0 p) ≡ kept_output p }
+    ensures whole { IsTrue result.1 ↔ (missing (last_part (xor_each sentinel bytes.now)) ≡ 0) }
 {
-    let mut at = left;
+    let mut at = 0;
     'by_block: while at < bytes.len() {
-        let rest = bytes.len() - at;
         let code = (bytes[at] ^ sentinel) as usize;
-        if rest < code {
+        if bytes.len() - at < code {
             return (at + 1, false);
-        }
-        // A row of 32 blocks, each with the code 01, is skipped in one step. It would be slower to go from code to
-        // code, because each load would wait for the preceding load.
-        if code == 1 && WINDOW <= rest && is_all(bytes, at, 1 ^ sentinel) {
-            at += WINDOW;
-            continue;
         }
         at += code;
     }

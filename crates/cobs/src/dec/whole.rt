@@ -1,17 +1,47 @@
 //! Decoding a whole frame into a separate buffer.
-ghost use Rattle.std.specs.Prelude.{◌≡◌, ◌≤◌, ◌+◌, List, length, ℕ, None, IfSome, IsSome};
+ghost use Rattle.std.specs.Prelude.{◌≡◌, ◌≤◌, List, length, ℕ};
 ghost use Rattle.cobs.specs.Overwritten.{overwritten};
-ghost use Rattle.cobs.specs.Decode.{IsShortPiece, first_output, result_of_decode};
+ghost use Rattle.cobs.specs.Decode.{first_output, result_of_decode};
+ghost use Rattle.cobs.specs.FirstPiece.{end_of_first};
 ghost use Rattle.cobs.specs.Grammar.{Reads};
 ghost use Rattle.cobs.specs.Headline.{IsPiece, ReportsMessage};
-ghost use Rattle.cobs.specs.Stream.{head};
 
-use crate::dec::each::decode_each;
-use crate::dec::span::{decode_span, message_len};
+use crate::dec::frame_decoder::PieceEnd;
 use crate::dec::unbuffered::START;
 use crate::error::{DecodeError, DecodeReport};
-use crate::find::{leading_zeros, len_without_end};
-use cobs_bytes::window::has_vectors;
+
+/// Decodes the first piece of the source into `dest`. Returns how the piece ended, and how many bytes of the source were
+/// consumed: the leading zeros, the piece, and the zero after the piece if there is one. Returns `None` if the source
+/// has no piece.
+///
+/// This function decodes as [`decode`] does, but it returns the number of consumed bytes even if the piece is broken or
+/// too long. So a program can go on with the next frame of a buffer that has several. The Rust crate `cobs` has no such
+/// call.
+///
+/// ```
+/// let frames = b"\x09lost\0\x03hi\0";
+/// let mut dest = [0; 8];
+/// if let Some((end, consumed)) = decode_first(frames, &mut dest) {
+///     assert_eq!(rt; end, PieceEnd::Broken(4));
+///     let next = decode_first(&frames[consumed..], &mut dest);
+///     assert_eq!(rt; next, Some((PieceEnd::Message(2), 4)));
+///     assert!(rt; dest.starts_with(b"hi"));
+/// }
+/// ```
+pub fn decode_first(source: &[u8], dest: &mut [u8]) -> Option<(PieceEnd, usize)>
+    ensures answer { result ≡ end_of_first source.now (length dest.old) }
+    ensures buffer { dest.new ≡ overwritten dest.old (first_output source.now) }
+{
+    let mut progress = START;
+    match progress.feed_piece(dest, source) {
+        Some(ended) => Some(ended),
+        // No zero ends the piece, so the end of the source ends it.
+        None => {
+            let end = PieceEnd::reported(progress.end(dest.len()))?;
+            Some((end, source.len()))
+        }
+    }
+}
 
 /// Decodes the first frame of the source into `dest`, and returns how many bytes of the source were consumed and how
 /// many bytes the message has.
@@ -51,71 +81,18 @@ pub fn decode(source: &[u8], dest: &mut [u8]) -> Result<DecodeReport, DecodeErro
     ensures only { IsPiece source.now → (m : List ℕ) → ReportsMessage result dest.new m
         → Reads source.now m × (length m ≤ length dest.old) }
 {
-    if !has_vectors() {
-        return decode_each(source, dest);
-    }
-    if let Some(result) = decode_short(source, dest) {
-        return result;
-    }
-    decode_long(source, dest)
-}
-
-/// Decodes a source of any length as [`decode`] does. ([`decode_short`] decodes only short frames.)
-fn decode_long(source: &[u8], dest: &mut [u8]) -> Result<DecodeReport, DecodeError>
-    ensures returned { result ≡ result_of_decode source.now (length dest.old) }
-    ensures buffer { dest.new ≡ overwritten dest.old (first_output source.now) }
-{
     if source.is_empty() {
         return Err(DecodeError::EmptyFrame);
     }
-    let start = leading_zeros(source);
-    if start == source.len() {
+    let Some((end, parsed_size)) = decode_first(source, dest) else {
         return Err(DecodeError::InvalidFrame { decoded_bytes: 0 });
+    };
+    match end {
+        PieceEnd::Message(frame_size) => Ok(DecodeReport {
+            parsed_size,
+            frame_size,
+        }),
+        PieceEnd::Broken(decoded_bytes) => Err(DecodeError::InvalidFrame { decoded_bytes }),
+        PieceEnd::TooLong => Err(DecodeError::TargetBufTooSmall),
     }
-    let rest = &source[start..];
-    let mut progress = START;
-    let len = progress.take_run(dest, rest);
-    if len < rest.len() && rest[len] != 0 {
-        return Err(DecodeError::TargetBufTooSmall);
-    }
-    let parsed_size = (start + len + 1).min(source.len());
-    let result = message_len(progress.written, progress.missing == 0);
-    result.map(|frame_size| DecodeReport {
-        parsed_size,
-        frame_size,
-    })
-}
-
-/// Decodes a short frame as [`decode`] does. If the conditions below aren't met, returns `None` and leaves `dest`
-/// unchanged.
-///
-/// The source must consist of `n` nonzero bytes, with or without one zero after them. The number `n` must be from 2 to
-/// 65, and `dest` must have at least `n - 1` bytes. If the target has SIMD vectors, [`decode`] calls this function
-/// first. `decode_short` and the functions of this library that it calls are marked `#[inline(always)]`, so a caller
-/// decodes a short frame without a function call. The Rust crate `cobs` has no such call.
-///
-/// ```
-/// let mut dest = [170; 3];
-/// assert!(rt; decode_short(b"\x03hi\0", &mut dest).is_some());
-/// assert_eq!(rt; &dest, b"hi\xaa");
-/// assert_eq!(rt; decode_short(b"\x03hi\0\x02", &mut dest), None);
-/// ```
-#[inline(always)]
-pub fn decode_short(source: &[u8], dest: &mut [u8]) -> Option<Result<DecodeReport, DecodeError>>
-    ensures taken { IsShortPiece source.now → length (head source.now) ≤ length dest.old + 1 → IsSome result }
-    ensures short { IfSome result (λ returned. IsShortPiece source.now) }
-    ensures room { IfSome result (λ returned. length (head source.now) ≤ length dest.old + 1) }
-    ensures returned { IfSome result (λ returned. returned ≡ result_of_decode source.now (length dest.old)) }
-    ensures buffer { IfSome result (λ returned. dest.new ≡ overwritten dest.old (first_output source.now)) }
-    ensures kept { result ≡ None → dest.new ≡ dest.old }
-{
-    if source.is_empty() {
-        return None;
-    }
-    let len = len_without_end(source, 0);
-    let left = decode_span(&source[..len], dest, 0)?;
-    Some(message_len(len - 1, left == 0).map(|frame_size| DecodeReport {
-        parsed_size: source.len(),
-        frame_size,
-    }))
 }

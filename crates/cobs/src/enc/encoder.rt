@@ -4,7 +4,6 @@ ghost use Rattle.cobs.specs.OpenBlock.{IsPlaceIn};
 ghost use Rattle.cobs.specs.Fields.Progress.{reached_by};
 
 use crate::enc::UnbufferedEncoder;
-use crate::enc::blocks::close;
 use crate::error::DestBufTooSmallError;
 
 /// Encodes a message that comes in chunks, and writes the frame to a slice that the encoder borrows.
@@ -114,6 +113,6 @@ impl<'a> CobsEncoder<'a> {
         ensures rest { drop result self.exit.0.now ≡ drop result (slice_of self.entry) }
     {
         let CobsEncoder { dest, encoder } = self;
-        close(dest, &encoder)
+        encoder.close(dest)
     }
 }

@@ -4,10 +4,9 @@ ghost use Rattle.cobs.specs.Length.{encoded_len};
 ghost use Rattle.cobs.specs.Grammar.{HasNoZero};
 ghost use Rattle.cobs.specs.Sentinel.{xor_each, IsEncodedFrameFor, IsDelimitedFrame, IsFreeOf, between_ends};
 
-use crate::enc::{encode, encode_few, try_encode, try_encode_any, try_encode_each};
+use crate::enc::{encode, try_encode};
 use crate::error::DestBufTooSmallError;
-use cobs_bytes::lanes::xor_bytes;
-use cobs_bytes::window::has_vectors;
+use crate::lanes::xor_bytes;
 
 /// Writes the encoded frame of `source` to the front of `dest`, with `sentinel` as the sentinel. Returns the frame's
 /// length in bytes.
@@ -66,13 +65,7 @@ pub fn try_encode_with_sentinel(
     ensures rest { IfOk result (λ n. drop n dest.new ≡ drop n dest.old) }
     ensures refused { OnErr result (dest.new ≡ dest.old) }
 {
-    let written = if !has_vectors() {
-        try_encode_each(source, dest)?
-    } else if let Some(len) = encode_few(source, dest, sentinel) {
-        return Ok(len);
-    } else {
-        try_encode_any(source, dest)?
-    };
+    let written = try_encode(source, dest)?;
     xor_bytes(&mut dest[..written], sentinel);
     Ok(written)
 }

@@ -1,7 +1,11 @@
-//! The state of an encoder for a message that comes in chunks. The caller passes the encoder's buffer to each call.
-ghost use Rattle.std.specs.Prelude.{◌≡◌, ◌<◌, ◌↔◌, [], ℕ, List, length, IsTrue, false};
-ghost use Rattle.cobs.specs.OpenBlock.{CobsEncoderAfter, IsPlaceIn};
+//! An encoder for a message that comes in chunks. The caller passes the encoder's buffer to each call.
+ghost use Rattle.std.specs.Prelude.{◌≡◌, ◌<◌, ◌≤◌, ◌++◌, ◌↔◌, [], ◌∷◌, ℕ, List, length, take, drop, IsOk, IfOk, OnOk, OnErr, false};
+ghost use Rattle.cobs.specs.Grammar.{HasNoZero, IsEncodedFrame};
+ghost use Rattle.cobs.specs.Length.{encoded_len};
+ghost use Rattle.cobs.specs.OpenBlock.{CobsEncoderAfter, HasRoomFor, IsPlaceIn, end_of};
 ghost use Rattle.cobs.specs.Fields.Progress.{reached_by};
+
+use crate::error::DestBufTooSmallError;
 
 /// Encodes a message that comes in chunks, straight into a buffer that the caller passes to each call.
 ///
@@ -76,26 +80,133 @@ impl UnbufferedEncoder {
         *self = UnbufferedEncoder::new();
     }
 
-    /// Sets the three numbers of the encoder to those of `state`.
-    // An assignment of the whole struct would also copy its padding.
+    /// Encodes the next bytes of the message, with `dest` as the buffer.
+    ///
+    /// An empty push changes nothing. The bytes of the buffer after the frame are never written.
+    ///
+    /// # Errors
+    /// Returns `DestBufTooSmallError` in exactly these two cases:
+    ///
+    /// - The encoded frame of all bytes pushed so far, including `bytes`, is longer than the buffer.
+    /// - The encoder's state isn't possible in a buffer of this length.
+    ///
+    /// In both cases, neither the encoder nor the buffer has changed. In the first case, the caller may end the
+    /// message, or push fewer bytes.
+    ///
+    /// ```
+    /// let mut buffer = [170; 3];
+    /// let mut encoder = UnbufferedEncoder::new();
+    /// let rejected = encoder.push(&mut buffer, &[7, 8, 9]);
+    /// assert_eq!(rt; rejected, Err(DestBufTooSmallError));
+    /// assert_eq!(rt; encoder.push(&mut buffer, &[7, 8]), Ok(()));
+    /// assert_eq!(rt; encoder.finalize(&mut buffer), Ok(3));
+    /// assert_eq!(rt; buffer, [3, 7, 8]);
+    /// ```
+    // This function is inlined, so that a loop of short pushes keeps the encoder in registers.
     #[inline(always)]
-    pub(crate) fn set(&mut self, state: UnbufferedEncoder)
-        ensures { self.new ≡ state }
+    #[tactic(auto, using(crate::proofs::encoding::TakingLemmas::encoder_steps))]
+    pub fn push(&mut self, dest: &mut [u8], bytes: &[u8]) -> Result<(), DestBufTooSmallError>
+        ensures room { IsOk result ↔ HasRoomFor (length dest.old) (reached_by self.old) bytes.now }
+        ensures fits { (m : List ℕ) → CobsEncoderAfter dest.old (reached_by self.old) m
+            → (IsOk result ↔ (encoded_len (m ++ bytes.now) ≤ length dest.old)) }
+        ensures taken { OnOk result ((m : List ℕ)
+            → CobsEncoderAfter dest.old (reached_by self.old) m
+            → CobsEncoderAfter dest.new (reached_by self.new) (m ++ bytes.now)) }
+        ensures rest { OnOk result (let end = end_of (reached_by self.new) in drop end dest.new ≡ drop end dest.old) }
+        ensures within { OnOk result (IsPlaceIn (length dest.new) (reached_by self.new)) }
+        ensures len { length dest.new ≡ length dest.old }
+        ensures refused { OnErr result ((dest.new ≡ dest.old) × (self.new ≡ self.old)) }
+        ensures empty { bytes.now ≡ [] → (dest.new ≡ dest.old) × (self.new ≡ self.old) }
     {
-        self.index = state.index;
-        self.taken = state.taken;
-        self.full = state.full;
+        // Without this test, a push of one byte takes three times as many instructions.
+        if bytes.len() == 1 {
+            return self.feed(dest, bytes[0]);
+        }
+        if !self.has_room(bytes, dest.len()) {
+            return Err(DestBufTooSmallError);
+        }
+        if !bytes.is_empty() {
+            self.append(dest, bytes);
+        }
+        Ok(())
     }
 
-    /// Returns whether the encoder's state is possible in a buffer of `len` bytes.
-    #[inline(always)]
-    pub(crate) fn is_within(&self, len: usize) -> bool
-        ensures { IsTrue result ↔ IsPlaceIn len (reached_by self.now) }
+    /// Ends the message, and returns the length of its encoded frame in bytes. The buffer then begins with that frame,
+    /// and the encoder is ready for the next message. Every byte after the frame is as it was before this call.
+    ///
+    /// # Errors
+    /// Returns `DestBufTooSmallError` if the encoder's state isn't possible in a buffer of this length. Then neither
+    /// the encoder nor the buffer has changed.
+    ///
+    /// ```
+    /// let rejected = UnbufferedEncoder::new().finalize(&mut []);
+    /// assert_eq!(rt; rejected, Err(DestBufTooSmallError));
+    /// ```
+    pub fn finalize(&mut self, dest: &mut [u8]) -> Result<usize, DestBufTooSmallError>
+        ensures place { IsOk result ↔ IsPlaceIn (length dest.old) (reached_by self.old) }
+        ensures fits { (m : List ℕ) → CobsEncoderAfter dest.old (reached_by self.old) m → IsOk result }
+        ensures len { IfOk result (λ n. (m : List ℕ)
+            → CobsEncoderAfter dest.old (reached_by self.old) m
+            → n ≡ encoded_len m) }
+        ensures frame { IfOk result (λ n. (m : List ℕ)
+            → CobsEncoderAfter dest.old (reached_by self.old) m
+            → IsEncodedFrame (take n dest.new) m) }
+        ensures no_sentinel { IfOk result
+            (λ n. (m : List ℕ) → CobsEncoderAfter dest.old (reached_by self.old) m
+            → HasNoZero (take n dest.new)) }
+        ensures end { IfOk result (λ n. n ≡ end_of (reached_by self.old)) }
+        ensures within { IfOk result (λ n. n ≤ length dest.old) }
+        ensures rest { IfOk result (λ n. drop n dest.new ≡ drop n dest.old) }
+        ensures buffer_len { length dest.new ≡ length dest.old }
+        ensures start { OnOk result (reached_by self.new
+            ≡ record { block = record { index = 0; code = 1 }; full = false }) }
+        ensures taken { OnOk result ((buffer : List ℕ) → 0 < length buffer
+            → CobsEncoderAfter buffer (reached_by self.new) []) }
+        ensures refused { OnErr result ((dest.new ≡ dest.old) × (self.new ≡ self.old)) }
     {
-        // An open block has at most 253 bytes; `taken` is greater only if the caller has changed the encoder's numbers.
-        if 253 < self.taken || len < self.index {
-            return false;
+        if !self.has_room(&[], dest.len()) {
+            return Err(DestBufTooSmallError);
         }
-        self.full != 0 || (self.taken as usize) < len - self.index
+        let len = self.close(dest);
+        self.reset();
+        Ok(len)
+    }
+
+    /// Encodes the next byte of the message, with `dest` as the buffer.
+    ///
+    /// The effect and the result are those of a [`push`](UnbufferedEncoder::push) of this one byte.
+    ///
+    /// # Errors
+    /// Returns `DestBufTooSmallError` if the encoded frame of the message up to and including this byte is longer than
+    /// the buffer, or if the encoder's state isn't possible in a buffer of this length. In both cases, neither the
+    /// encoder nor the buffer has changed.
+    ///
+    /// ```
+    /// let mut buffer = [170; 2];
+    /// let mut encoder = UnbufferedEncoder::new();
+    /// assert_eq!(rt; encoder.feed(&mut buffer, 7), Ok(()));
+    /// assert_eq!(rt; encoder.feed(&mut buffer, 8), Err(DestBufTooSmallError));
+    /// assert_eq!(rt; encoder.finalize(&mut buffer), Ok(2));
+    /// assert_eq!(rt; buffer, [2, 7]);
+    /// ```
+    #[inline(always)]
+    #[tactic(auto, using(crate::proofs::encoding::TakingLemmas::encoder_steps))]
+    pub fn feed(&mut self, dest: &mut [u8], byte: u8) -> Result<(), DestBufTooSmallError>
+        ensures room { IsOk result ↔ HasRoomFor (length dest.old) (reached_by self.old) (byte ∷ []) }
+        ensures fits { (m : List ℕ) → CobsEncoderAfter dest.old (reached_by self.old) m
+            → (IsOk result ↔ (encoded_len (m ++ byte ∷ []) ≤ length dest.old)) }
+        ensures taken { OnOk result ((m : List ℕ)
+            → CobsEncoderAfter dest.old (reached_by self.old) m
+            → CobsEncoderAfter dest.new (reached_by self.new) (m ++ byte ∷ [])) }
+        ensures rest { OnOk result (let end = end_of (reached_by self.new) in drop end dest.new ≡ drop end dest.old) }
+        ensures within { OnOk result (IsPlaceIn (length dest.new) (reached_by self.new)) }
+        ensures len { length dest.new ≡ length dest.old }
+        ensures refused { OnErr result ((dest.new ≡ dest.old) × (self.new ≡ self.old)) }
+    {
+        if !self.has_room(&[byte], dest.len()) {
+            return Err(DestBufTooSmallError);
+        }
+        self.append_byte(dest, byte);
+        Ok(())
     }
 }

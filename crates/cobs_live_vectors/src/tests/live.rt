@@ -19,7 +19,7 @@ fn what_had_ended_is_written_at_each_read(rt: HostRuntime) -> Result<(), Fail> {
             written: 0,
         };
         let mut output = BufWriter::new(alloc, Vec::new(alloc))?;
-        let settings = settings(alloc, Style::Hex, Stamp::Untimed);
+        let settings = settings(Style::Hex, Stamp::Untimed);
         let timer = timer(Stamp::Untimed)?;
         let shown = show_recorded(alloc, &settings, &timer, &mut input, &mut output);
         assert!(rt; shown.is_ok());

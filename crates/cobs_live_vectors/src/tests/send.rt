@@ -91,7 +91,7 @@ fn what_is_sent_with_a_checksum_is_shown_without_it(rt: HostRuntime) -> Result<(
             let mut lines = AnyInput::new(b"ping\n\n".as_slice());
             let done = run_send(alloc, &how, &mut lines, &mut sent, &mut Vec::new(alloc));
             assert_eq!(rt; done, Ok(true));
-            let mut how = settings(alloc, Style::Text, Stamp::Untimed);
+            let mut how = settings(Style::Text, Stamp::Untimed);
             // The message `ping` and a checksum have at most 8 bytes.
             how.length = 8;
             how.view.checksum = Some(Checksum::new(crc.params(), little));

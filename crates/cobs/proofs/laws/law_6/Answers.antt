@@ -3,7 +3,7 @@
 use Rattle.std.proofs.Common.{arith}
 use Rattle.cobs.proofs.format.SentinelLemmas.{coded_nonzero, no_sentinel_for, xor_each-twice}
 use Rattle.cobs.proofs.laws.law_6.Goals as goal
-use Rattle.cobs_bytes.proofs.bytes.XoredLemmas.{xor_each-zero}
+use Rattle.cobs.proofs.bytes.XoredLemmas.{xor_each-zero}
 
 pub returns : goal.returns
 returns c = grind (arith, no_sentinel_for, xor_each-twice, coded_nonzero, xor_each-zero)

@@ -2,7 +2,7 @@
 -- bytes that the clause `text` states.
 use Rattle.std.proofs.Common.{◌≢◌, ◌++◌, ◌-◌, ℕ, List, length, min, take, drop, set, sym, ap, ◌∙◌, arith}
 use Rattle.std.proofs.lemmas.Bool.{eqb-false}
-use Rattle.cobs_abi.specs.Text.{words}
+use Rattle.cobs_c.specs.Text.{words}
 use Rattle.cobs_c.proofs.BufferLemmas.{words-written}
 use Rattle.cobs_c.proofs.text.jcobs_strerror.Goals as goal
 

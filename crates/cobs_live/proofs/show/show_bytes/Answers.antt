@@ -24,10 +24,10 @@ by_part-preserved g c =
     let at : ℕ = c.by_part.at in
     let count : ℕ = c.in-Some.count in
     -- the part that was passed to the decoder, and the bytes that are shown after this iteration (`is`)
-    let part : List ℕ = c.front-part.result.now in
-    let is : take (at + count) c.args.bytes.now ≡ take at c.args.bytes.now ++ take count part = take-part at count c.args.bytes.now part c.front-part.ensures.front h.within.0 in
+    let part : List ℕ = take (length c.args.bytes.now - at) (drop at c.args.bytes.now) in
+    let is : take (at + count) c.args.bytes.now ≡ take at c.args.bytes.now ++ take count part = take-part at count c.args.bytes.now part (sym (take_all (length part) part (omega arith))) h.within.0 in
     record {
-      within = omega (arith, h.within.0, c.front-part.ensures.within, c.by_part.invariant.within, length-take (length c.args.bytes.now - at) (drop at c.args.bytes.now), length-drop at c.args.bytes.now);
+      within = omega (arith, h.within.0, c.by_part.invariant.within, length-take (length c.args.bytes.now - at) (drop at c.args.bytes.now), length-drop at c.args.bytes.now);
       len = h.takes.len ∙ c.by_part.invariant.len;
       so_far = λ p d gone read t times r.
           -- s says what is shown so far, `counted` is the tally with this piece, and `last` is the piece that ended
@@ -46,10 +46,10 @@ by_part-preserved-in_default g c =
     let h = c.in_default.ensures.takes in
     let at : ℕ = c.by_part.at in
     -- the part that was passed to the decoder, and the bytes that are shown after this iteration (`is`)
-    let part : List ℕ = c.front-part.result.now in
-    let is : take (at + length part) c.args.bytes.now ≡ take at c.args.bytes.now ++ part = take-whole_part at c.args.bytes.now part c.front-part.ensures.front in
+    let part : List ℕ = take (length c.args.bytes.now - at) (drop at c.args.bytes.now) in
+    let is : take (at + length part) c.args.bytes.now ≡ take at c.args.bytes.now ++ part = take-whole_part at c.args.bytes.now part (sym (take_all (length part) part (omega arith))) in
     record {
-      within = omega (arith, c.front-part.ensures.within, c.by_part.invariant.within, length-take (length c.args.bytes.now - at) (drop at c.args.bytes.now), length-drop at c.args.bytes.now);
+      within = omega (arith, c.by_part.invariant.within, length-take (length c.args.bytes.now - at) (drop at c.args.bytes.now), length-drop at c.args.bytes.now);
       len = h.takes.len ∙ c.by_part.invariant.len;
       so_far = λ p d gone read t times r.
           (let s = c.by_part.invariant.so_far p d gone read t times r in

@@ -12,21 +12,13 @@ use Rattle.cobs.proofs.dec.in_place.decode_in_place_report.Goals as goal
 pub returns-in_err-frame_size : goal.returns-in_err-frame_size
 returns-in_err-frame_size c =
     -- the bytes before `end` are the head of the buffer
-    let e = c.zero_or_len-end.ensures in
+    let e = c.position_or_len-end.ensures in
     let front = front_is_head _ _ e.within e.before e.stop in
     in_place_clauses _ _ _ (grind (arith, in_place_report-rejected)) (grind arith) (bytes_below _ (search rules))
 
 -- `decode_blocks_in_place` returned the message's length
 pub returns : goal.returns
 returns c =
-    let e = c.zero_or_len-end.ensures in
+    let e = c.position_or_len-end.ensures in
     let front = front_is_head _ _ e.within e.before e.stop in
     in_place_clauses _ _ _ (grind (arith, in_place_report-decoded, length-take-le)) (grind arith) (bytes_below _ (search rules))
-
--- `decode_short_in_place` decoded the frame
-pub returns-in-Some : goal.returns-in-Some
-returns-in-Some c = in_place_clauses _ _ _ c.in-Some.ensures.returned c.in-Some.ensures.buffer (bytes_below _ (search rules))
-
--- without vectors, `decode_in_place_each` decodes the frame
-pub returns-then-not-has_vectors : goal.returns-then-not-has_vectors
-returns-then-not-has_vectors c = grind (arith, in_place_clauses, bytes_below)

@@ -12,7 +12,7 @@ use Rattle.cobs.proofs.encoding.AfterLemmas.{after-end, after-place, end-is}
 use Rattle.cobs.proofs.encoding.ByteLemmas.{room-only}
 use Rattle.cobs.proofs.encoding.TakingLemmas.{all-after, all-end, all-rest, next-least}
 use Rattle.cobs.proofs.enc.in_place.encode_in_place.Goals as goal
-use Rattle.cobs_bytes.proofs.bytes.ListLemmas.{drop-later}
+use Rattle.cobs.proofs.bytes.ListLemmas.{drop-later}
 
 -- the frame ends at the place of the next byte at the latest
 end-le : (r : Reached) → end_of r ≤ next_of r
@@ -38,8 +38,8 @@ by_byte-init c = grind arith
 pub append_byte-requires : goal.append_byte-requires
 append_byte-requires c =
     let i = c.by_byte.invariant in
-    let byte : ℕ = get_or c.by_byte.buffer (c.max_encoding_overhead-before.result + c.by_byte.taken) 0 in
-    let long = length-take c.by_byte.taken (drop c.max_encoding_overhead-before.result c.args.buffer.now) in
+    let byte : ℕ = get_or c.by_byte.buffer (c.args.start + c.by_byte.taken) 0 in
+    let long = length-take c.by_byte.taken (drop c.args.start c.args.buffer.now) in
     -- `room`: there is room for the byte, because the frame with it is within the slice (`fits-one`)
     let room = room-only c.by_byte.encoder _ byte
     (record { place = after-place i.after; fits = fits-one byte c.args.len i.after (omega arith) (omega arith) }) in
@@ -49,23 +49,23 @@ append_byte-requires c =
 pub by_byte-preserved : goal.by_byte-preserved
 by_byte-preserved c =
     let old : List ℕ = c.args.buffer.now in
-    -- the message begins at index `before` of the buffer, and its next byte is at index `at`
-    let before : ℕ = c.max_encoding_overhead-before.result in
-    let at : ℕ = before + c.by_byte.taken in
+    -- the message begins at index `start` of the buffer, and its next byte is at index `at`
+    let start : ℕ = c.args.start in
+    let at : ℕ = start + c.by_byte.taken in
     let r : Reached = reached_by c.by_byte.encoder in
     let i = c.by_byte.invariant in
     -- facts for the tactics: the encoder takes the byte (`e`), the frame so far ends at `end_of r` (`end`), and this
     -- frame is no longer than `max_encoded_len` says (`most`)
-    let taken_long = length-take c.by_byte.taken (drop before old) in
-    let e = c.append_byte.ensures.taken [] (fits-one _ c.args.len i.after (omega arith) (omega arith)) in
-    let long = length-drop before old in
+    let taken_long = length-take c.by_byte.taken (drop start old) in
+    let e = c.append_byte.ensures [] (fits-one _ c.args.len i.after (omega arith) (omega arith)) in
+    let long = length-drop start old in
     let end = end-is i.after in
-    let most = encoded_len-le (take c.by_byte.taken (drop before old)) in
+    let most = encoded_len-le (take c.by_byte.taken (drop start old)) in
     -- the next byte in the buffer is the byte of the message, because the frame hasn't reached it
-    let byte : get_or c.by_byte.buffer at 0 ≡ get_or (drop before old) c.by_byte.taken 0 =
+    let byte : get_or c.by_byte.buffer at 0 ≡ get_or (drop start old) c.by_byte.taken 0 =
     there _ at c.by_byte.buffer old (omega arith) i.rest ∙ sym (grind (arith, get_or-drop)) in
     -- the message so far, with this byte
-    let more : take (c.by_byte.taken + 1) (drop before old) ≡ take c.by_byte.taken (drop before old) ++ get_or c.by_byte.buffer at 0 ∷ [] = grind (arith, take_more) in
+    let more : take (c.by_byte.taken + 1) (drop start old) ≡ take c.by_byte.taken (drop start old) ++ get_or c.by_byte.buffer at 0 ∷ [] = grind (arith, take_more) in
     -- the frame isn't shorter after the byte
     let later : end_of r ≤ end_of (reached_by c.append_byte.new.self) =
     omega (arith, all-end e, end-le r, next-least r (get_or c.by_byte.buffer at 0 ∷ []) (after-place i.after).some (omega arith)) in
@@ -74,20 +74,20 @@ by_byte-preserved c =
       rest = all-rest e ∙ drop-later _ _ _ _ later i.rest;
     }
 
--- the encoder's state is possible, as `close_block` requires
-pub close_block-requires : goal.close_block-requires
-close_block-requires c = after-place c.by_byte.invariant.after
+-- the encoder's state is possible, as `close` requires
+pub close-requires : goal.close-requires
+close-requires c = after-place c.by_byte.invariant.after
 
 -- after the loop, the encoder has taken the whole message m
 pub returns : goal.returns
 returns c =
-    let m : List ℕ = message_in c.args.len c.args.buffer.now in
+    let m : List ℕ = message_in c.args.start c.args.len c.args.buffer.now in
     let after : CobsEncoderAfter c.by_byte.buffer (reached_by c.by_byte.encoder) m = grind arith in
-    let frame = c.close_block.ensures.frame m after in
+    let frame = c.close.ensures.frame m after in
     record {
       frame = frame;
       no_sentinel = encoded_nonzero frame;
-      -- `close_block` returns the end of the frame, which is `encoded_len` of m (`end-is`)
-      len = c.close_block.ensures.end ∙ sym (end-is after);
+      -- `close` returns the end of the frame, which is `encoded_len` of m (`end-is`)
+      len = c.close.ensures.end ∙ sym (end-is after);
       rest = grind arith;
     }

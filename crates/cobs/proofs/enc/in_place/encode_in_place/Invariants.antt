@@ -7,6 +7,6 @@ use Rattle.cobs.proofs.enc.in_place.encode_in_place.Given as goal
 
 abbrev pub invariant-by_byte : goal.invariant-by_byte
 invariant-by_byte l = record {
-  after : CobsEncoderAfter l.buffer (reached_by l.encoder) (take l.taken (drop l.before l.fn.buffer));
+  after : CobsEncoderAfter l.buffer (reached_by l.encoder) (take l.taken (drop l.start l.fn.buffer));
   rest : drop (end_of (reached_by l.encoder)) l.buffer ≡ drop (end_of (reached_by l.encoder)) l.fn.buffer;
 }

@@ -1,7 +1,6 @@
 -- XOR with the sentinel twice changes nothing (`xor_each-twice`), so the XORed bytes are a frame for the sentinel. The
 -- sentinel doesn't occur in this frame (`encoded_free`).
 use Rattle.std.proofs.Common.{arith, length-take-le, take_at}
-use Rattle.std.proofs.lemmas.Grind.{common_steps}
 use Rattle.cobs.proofs.format.SentinelLemmas.{encoded_free, xor_each-twice}
 use Rattle.cobs.proofs.enc.sentinel.try_encode_with_sentinel.Goals as goal
 
@@ -10,11 +9,3 @@ returns-clause-frame c = grind (arith, length-take-le, take_at, xor_each-twice)
 
 pub returns-clause-no_sentinel : goal.returns-clause-no_sentinel
 returns-clause-no_sentinel c = encoded_free c.args.sentinel _ (returns-clause-frame c)
-
--- the bytes after the frame are as they were; without this answer, the prover's own search would take long
-pub returns-clause-rest : goal.returns-clause-rest
-returns-clause-rest c = grind (arith, common_steps)
-
--- `encode_few` has written a frame for this sentinel
-pub returns-in-Some-clause-no_sentinel : goal.returns-in-Some-clause-no_sentinel
-returns-in-Some-clause-no_sentinel c = grind (arith, encoded_free)

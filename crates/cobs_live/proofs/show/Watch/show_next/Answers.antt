@@ -1,6 +1,6 @@
 -- The call shows the bytes that the read returned, after those of the stream so far (s is the state before the call).
 -- `RunLemmas` has a lemma for each part of the state after the call (`more-ended`, `more-left`, `more-tallied`,
--- `more-timed`, and `hung-up` for a hang-up). On every path the run stays live (`live-next`).
+-- `more-timed`). On every path the run stays live (`live-next`).
 -- `law_9`: A stream may be cut anywhere.
 use Rattle.std.proofs.Common.{◌≡◌, ℕ, Bool, ◌++◌, Option, subst, List, length, take, drop, ap, ◌∙◌, sym, length-take-le, arith, rules}
 use Rattle.std.proofs.KnownBytes.{Appends-kept}
@@ -8,32 +8,29 @@ use Rattle.cobs.specs.Feed.{DecoderAfter}
 use Rattle.cobs.specs.Laws.{StreamLaw}
 use Rattle.cobs_live.specs.Reads.{Takes}
 use Rattle.cobs_live.specs.declared.clock.Times.{Times}
-use Rattle.cobs_live.specs.declared.fault.WatchFault.{WatchFault}
-use Rattle.cobs_live.specs.declared.input.Came.TheVariants.{Bytes}
 use Rattle.cobs.specs.Fields.Decoders.{phase_of}
 use Rattle.cobs.specs.Sentinel.{xor_each}
 use Rattle.cobs.specs.Stream.{unended}
-use Rattle.cobs_live.specs.Watched.{begun, letters_of, skips_on}
-use Rattle.cobs_live.proofs.LineLemmas.{letters_of-gone, letters_of-more}
-use Rattle.cobs_live.proofs.RunLemmas.{flushed-Appends, more-ended, more-left, more-read, more-skips, more-tallied, more-timed, whole-message, given-bytes, given-next, given-hang_up, hung-up, next-failed, nothing-read, live-next, newly, opened, same-tallied, shown-all, shown-ended, takes-bytes, takes-hang_up, unfinished-next}
+use Rattle.cobs_live.specs.Watched.{begun, skips_on}
+use Rattle.cobs_live.proofs.RunLemmas.{flushed-Appends, more-ended, more-left, more-read, more-skips, more-tallied, more-timed, whole-message, given-next, next-failed, nothing-read, live-next, newly, opened, same-tallied, shown-all, shown-ended, unfinished-next}
 use Rattle.cobs_live.proofs.show.Watch.show_next.Goals as goal
 
 -- the read returned no bytes: the input has ended, and everything was shown (`shown-all`)
 pub returns-then-count-eq0-clause-shown : goal.returns-then-count-eq0-clause-shown
 returns-then-count-eq0-clause-shown g c = λ settings from before s.
     -- the read returned no byte, and `takes` is its clause `Takes`
-    let none : c.in-Bytes.count ≡ 0 = c.if-count-eq0.true in
-    let takes = takes-bytes _ _ _ _ _ c.in-Bytes.is c.in-Ok.ensures.takes in
+    let none : c.in-Ok.count ≡ 0 = c.if-count-eq0.true in
+    let takes = c.in-Ok.ensures.takes in
     shown-all (assumption c.law_9.ensures) s (rw none at takes.1) (takes.2 none (omega (arith, c.in-Ok.ensures.len, c.requires.some))) c.in_ok-end.ensures.shown
 
 -- the read returned bytes, and the pieces that end in them were shown
 pub returns-clause-shown : goal.returns-clause-shown
 returns-clause-shown g c = λ settings from before s.
     let law : StreamLaw = assumption c.law_9.ensures in
-    let count : ℕ = c.in-Bytes.count in
+    let count : ℕ = c.in-Ok.count in
     let chunk : List ℕ = c.read_chunk.new.chunk in
     let to' : Option (List ℕ) = g.S.LiveInput.remaining c.read_chunk.new.input in
-    let takes : Takes (g.S.LiveInput.remaining c.args.input.now) to' (Bytes count) chunk = takes-bytes (g.S.LiveInput.remaining c.args.input.now) to' c.in-Ok.came count chunk c.in-Bytes.is c.in-Ok.ensures.takes in
+    let takes : Takes (g.S.LiveInput.remaining c.args.input.now) to' count chunk = c.in-Ok.ensures.takes in
     -- the bytes that the read returned; XORed with the sentinel, they are `stream` (`changed`), and without the skipped
     -- bytes they are passed to the decoder (`new`)
     let more : List ℕ = take count chunk in
@@ -84,9 +81,7 @@ unfolding returns-clause-shown
 returns-clause-goes_on g c = λ yes settings start from before s. record {
   so_far = returns-clause-shown g c settings from before s.so_far;
   live = live-next s c.in-Ok.ensures.once;
-  given = given-next s c.in-Ok.ensures.once
-      ∙ ap (λ (l : List (Option ℕ)). letters_of s.so_far.ended.gone s.so_far.ended.bytes ++ l) (given-bytes WatchFault c.in-Ok.came c.in-Bytes.count c.read_chunk.new.chunk c.in-Bytes.is)
-      ∙ sym (letters_of-more s.so_far.ended.gone s.so_far.ended.bytes (take c.in-Bytes.count c.read_chunk.new.chunk));
+  given = given-next s c.in-Ok.ensures.once;
 }
 
 -- ON EVERY PATH the run is live after the read of this call; the other goals with the ending `-clause-live` say this
@@ -112,28 +107,6 @@ returns-in_err-show_bytes-clause-live g c = λ settings start from before s. liv
 pub returns-in_err-flush-clause-live : goal.returns-in_err-flush-clause-live
 returns-in_err-flush-clause-live g c = λ settings start from before s. live-next s c.in-Ok.ensures.once
 
-pub returns-in_err-hang_up-clause-live : goal.returns-in_err-hang_up-clause-live
-returns-in_err-hang_up-clause-live g c = λ settings start from before s. live-next s c.in-Ok.ensures.once
-
-pub returns-in_default-clause-live : goal.returns-in_default-clause-live
-returns-in_default-clause-live g c = λ settings start from before s. live-next s c.in-Ok.ensures.once
-
--- THE LINE HUNG UP, and the text of the hang-up was written (`hung-up`)
-pub returns-in_default-clause-shown : goal.returns-in_default-clause-shown
-returns-in_default-clause-shown g c = λ settings from before s.
-    hung-up (assumption c.law_9.ensures) s (takes-hang_up _ _ _ _ c.in_default.is c.in-Ok.ensures.takes).0 c.in_ok-hang_up.ensures.shown c.in_ok-hang_up.ensures.anew
-
--- after a hang-up, the run goes on: it is live, and the results of its reads are the results so far and this hang-up
-pub returns-in_default-clause-goes_on : goal.returns-in_default-clause-goes_on
-unfolding returns-in_default-clause-shown
-returns-in_default-clause-goes_on g c = λ yes settings start from before s. record {
-  so_far = returns-in_default-clause-shown g c settings from before s.so_far;
-  live = live-next s c.in-Ok.ensures.once;
-  given = given-next s c.in-Ok.ensures.once
-      ∙ ap (λ (l : List (Option ℕ)). letters_of s.so_far.ended.gone s.so_far.ended.bytes ++ l) (given-hang_up WatchFault c.in-Ok.came c.read_chunk.new.chunk c.in_default.is)
-      ∙ sym (letters_of-gone s.so_far.ended.gone s.so_far.ended.bytes);
-}
-
 -- A WRITE FAILED: for a fault of a write, `ShowsNext` claims nothing about the text (`unfinished-next`). The other goals
 -- with the ending `-clause-shown` say this for the other writes.
 pub returns-in_err-end-clause-shown : goal.returns-in_err-end-clause-shown
@@ -143,10 +116,6 @@ returns-in_err-end-clause-shown g c = λ settings from before s.
 pub returns-in_err-show_bytes-clause-shown : goal.returns-in_err-show_bytes-clause-shown
 returns-in_err-show_bytes-clause-shown g c = λ settings from before s.
     unfinished-next _ _ _ _ _ _ _ c.in_err-show_bytes.field-0.0 (search rules) c.in_err-show_bytes.ensures.fault
-
-pub returns-in_err-hang_up-clause-shown : goal.returns-in_err-hang_up-clause-shown
-returns-in_err-hang_up-clause-shown g c = λ settings from before s.
-    unfinished-next _ _ _ _ _ _ _ c.in_err-hang_up.field-0.0 (search rules) c.in_err-hang_up.ensures.fault
 
 pub returns-in_err-end-in-Err-clause-shown : goal.returns-in_err-end-in-Err-clause-shown
 returns-in_err-end-in-Err-clause-shown g c = λ settings from before s.

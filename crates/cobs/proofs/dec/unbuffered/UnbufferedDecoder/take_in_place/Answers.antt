@@ -7,7 +7,7 @@ use Rattle.cobs.specs.Internal.FeedsQuietly.{FeedsQuietly}
 use Rattle.cobs.proofs.streaming.RunLemmas.{rest_read}
 use Rattle.cobs.proofs.streaming.SpanLemmas.{FeedsQuietly-more}
 use Rattle.cobs.proofs.dec.unbuffered.UnbufferedDecoder.take_in_place.Goals as goal
-use Rattle.cobs_bytes.proofs.bytes.ListLemmas.{part-nonzero}
+use Rattle.cobs.proofs.bytes.ListLemmas.{part-nonzero}
 
 -- none of the bytes from index `at` to index `end - 1` is a zero: these bytes are as they were before the call
 pub take_part_in_place-at-requires-clause-nonzero : goal.take_part_in_place-at-requires-clause-nonzero

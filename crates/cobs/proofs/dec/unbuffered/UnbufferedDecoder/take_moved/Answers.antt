@@ -8,9 +8,9 @@ use Rattle.cobs.proofs.dec.unbuffered.UnbufferedDecoder.take_moved.Goals as goal
 pub returns-then-len-missing-clause-fed : goal.returns-then-len-missing-clause-fed
 returns-then-len-missing-clause-fed c before xs room long is = grind (arith, kept)
 
--- a code is among the bytes; `settle` makes the last code's block the open block (j)
+-- a code is among the bytes, and the last code's block is then the open block
 pub returns-clause-fed : goal.returns-clause-fed
 returns-clause-fed c before xs room long is =
-    let j = c.settle.ensures in
+    let j = c.joint_after-self.ensures in
     -- `marked` needs that `joint` agrees with the last code: it is 0 if and only if this code is 255 (`joint-is`)
-    rw j.rest (marked c.args.self.now c.args.len c.args.dest.now c.requires.nonzero before xs room long is c.requires.going c.requires.full c.requires.few (omega arith) _ _ _ _ c.write_zeros_at_codes.ensures (joint-is _ _ j.full j.other))
+    marked c.args.self.now c.args.len c.args.dest.now c.requires.nonzero before xs room long is c.requires.going c.requires.full c.requires.few (omega arith) _ _ _ _ c.write_zeros_at_codes-code.ensures (joint-is _ _ j.full j.other)

@@ -3,8 +3,8 @@ use Rattle.std.proofs.Common.{refl, arith}
 use Rattle.cobs.proofs.encoding.ByteLemmas.{byte-fills, byte-joins, byte-zero, is-place}
 use Rattle.cobs.proofs.enc.unbuffered.UnbufferedEncoder.append_byte.Goals as goal
 
-pub returns-clause-taken : goal.returns-clause-taken
-returns-clause-taken c = λ behind fits.
+pub returns : goal.returns
+returns c = λ behind fits.
     -- the `requires` say that the state is possible, as the three lemmas need
     let place = is-place c.args.self.now _ c.requires.open_block c.requires.room in
     elim c.if-byte-eq0.branch [
