@@ -76,9 +76,9 @@
  * results is true only if the state is the initial state, or is as an earlier call left it.
  *
  * While a call runs, nothing else may change its input, its buffer or its state: no other thread or process, no
- * interrupt or signal handler, no DMA transfer. A call may read a byte twice. If the byte changes between the two
- * reads, the call may access memory outside the buffers, or never return. So wait until a DMA transfer into the input
- * has finished, or pass a copy of the input.
+ * interrupt or signal handler, no DMA transfer. The comment above a call says if the call may read a byte twice. If
+ * such a byte changes between the two reads, the call may access memory outside the buffers, or never return. So wait
+ * until a DMA transfer into the input has finished, or pass a copy of the input.
  *
  * No function allocates memory or uses a lock. No function keeps a pointer or other data after it returns, so the
  * result of a call depends only on the arguments. Calls on different buffers and states may run at the same time, even
@@ -86,7 +86,9 @@
  *
  * Results
  *
- * The comment below a prototype lists each status that the call can return, without the prefix JCOBS_. For each status,
+ * Most calls return a struct, so the compiler must support functions that return structs.
+ *
+ * The comment above a prototype lists each status that the call can return, without the prefix JCOBS_. For each status,
  * the comment gives the values of the other two members of jcobs_answer:
  *
  * - consumed is the number of bytes of the input (the message, the source or the pushed bytes) that the call has
@@ -123,9 +125,6 @@
  * debuggers; the library for aarch64 has none. Neither library has unwind tables. No call throws or unwinds. Each call
  * begins with a landing pad (endbr64 or bti c), so a program that is hardened with IBT, SHSTK or BTI stays hardened.
  * The library calls only two functions that it doesn't contain: memcpy and memmove.
- *
- * The file jcobs.c, which you compile yourself, has every call. The archives for microcontrollers have neither
- * jcobs_strerror nor the calls whose names end in _with_sentinel.
  */
 #ifndef JCOBS_H
 #define JCOBS_H
@@ -238,114 +237,126 @@ typedef struct jcobs_encoder {
 #define JCOBS_CHANGES(pointer, length)
 #endif
 
-/* Returns the length of the longest frame that a message of message_len bytes can have, not counting a sentinel. This
- * length is message_len plus message_len / 254, where message_len / 254 is rounded up. For the empty message the length
- * is 1.
- *
- * The macro JCOBS_MAX_LENGTH gives the same value as the function. If the argument is a constant, the macro is a
- * constant expression, so it can be the length of an array. If the argument's type isn't wider than size_t, the value
- * of the macro has an unsigned type that is as wide as size_t. In this case, if the length doesn't fit a size_t, the
- * macro wraps around, but the function returns 0. The macro evaluates its argument more than once, and can't be used in
+/* JCOBS_MAX_LENGTH gives the same value as jcobs_max_length. If the argument is a constant, the macro is a constant
+ * expression, so it can be the length of an array. If the argument's type isn't wider than size_t, the value of the
+ * macro has an unsigned type that is as wide as size_t. In this case, if the length doesn't fit a size_t, the macro
+ * wraps around, but the function returns 0. The macro evaluates its argument more than once, and can't be used in
  * #if. */
 #define JCOBS_MAX_LENGTH(message_len)                                                                                  \
     (sizeof(char) * (message_len) + sizeof(char) * (message_len) / 254 +                                               \
      (sizeof(char) * (message_len) % 254 != 0 || (message_len) == 0 ? 1 : 0))
+
+/* Returns the length of the longest frame that a message of message_len bytes can have, not counting a sentinel, or 0
+ * if this length doesn't fit a size_t. The length is message_len plus message_len / 254, where message_len / 254 is
+ * rounded up. For the empty message the length is 1. */
 JCOBS_API size_t jcobs_max_length(size_t message_len) JCOBS_CHECKED;
-/* returns: the length of the longest frame, or 0 if this length doesn't fit a size_t */
 
 /* Writes the frame of the message, without a sentinel, to the front of the buffer `frame`. A buffer of
- * jcobs_max_length(message_len) bytes is always long enough. */
-JCOBS_API jcobs_answer jcobs_encode(const void *message, size_t message_len, void *frame, size_t frame_size)
-    JCOBS_READS(1, 2) JCOBS_WRITES(3, 4) JCOBS_CHECKED;
-/* returns:
+ * jcobs_max_length(message_len) bytes is always long enough. The call may read a byte of the message twice.
+ *
+ * Returns:
  * - OK: consumed is message_len, and length is the length of the frame;
  * - TOO_SMALL, if and only if the frame doesn't fit: consumed and length are 0, and the buffer is as it was. */
+JCOBS_API jcobs_answer jcobs_encode(const void *message, size_t message_len, void *frame, size_t frame_size)
+    JCOBS_READS(1, 2) JCOBS_WRITES(3, 4) JCOBS_CHECKED;
 
 /* Writes the frame of the message, followed by a zero, to the front of the buffer `frame`. A buffer of
- * jcobs_max_length(message_len) + 1 bytes is always long enough. */
-JCOBS_API jcobs_answer jcobs_encode_terminated(const void *message, size_t message_len, void *frame, size_t frame_size)
-    JCOBS_READS(1, 2) JCOBS_WRITES(3, 4) JCOBS_CHECKED;
-/* returns:
+ * jcobs_max_length(message_len) + 1 bytes is always long enough. The call may read a byte of the message twice.
+ *
+ * Returns:
  * - OK: consumed is message_len, and length is the length of the frame and its zero;
  * - TOO_SMALL, if and only if the frame and its zero don't fit: consumed and length are 0, and the buffer is as it
  *   was. */
+JCOBS_API jcobs_answer jcobs_encode_terminated(const void *message, size_t message_len, void *frame, size_t frame_size)
+    JCOBS_READS(1, 2) JCOBS_WRITES(3, 4) JCOBS_CHECKED;
 
-/* Encodes like jcobs_encode, but XORs each byte of the frame with the given sentinel. */
+/* Encodes like jcobs_encode, but XORs each byte of the frame with the given sentinel. The call may read a byte of the
+ * message twice.
+ *
+ * Returns the same as jcobs_encode. */
 JCOBS_API jcobs_answer jcobs_encode_with_sentinel(const void *message, size_t message_len, void *frame,
                                                   size_t frame_size, unsigned char sentinel) JCOBS_READS(1, 2)
     JCOBS_WRITES(3, 4) JCOBS_CHECKED;
-/* returns: the same as jcobs_encode */
 
 /* Encodes like jcobs_encode_terminated, but XORs each byte of the frame with the given sentinel, and writes this
- * sentinel after the frame instead of a zero. */
+ * sentinel after the frame instead of a zero. The call may read a byte of the message twice.
+ *
+ * Returns the same as jcobs_encode_terminated. */
 JCOBS_API jcobs_answer jcobs_encode_terminated_with_sentinel(const void *message, size_t message_len, void *frame,
                                                              size_t frame_size, unsigned char sentinel)
     JCOBS_READS(1, 2) JCOBS_WRITES(3, 4) JCOBS_CHECKED;
-/* returns: the same as jcobs_encode_terminated */
 
-/* Encodes a message in its own buffer. Before the call the message, which has message_len bytes, begins at index
- * JCOBS_MAX_OVERHEAD(message_len) of the buffer; the bytes before this index have no effect. After the call the buffer
- * begins with the frame that jcobs_encode would write.
- *
- * The value of the macro JCOBS_MAX_OVERHEAD is JCOBS_MAX_LENGTH(message_len) minus message_len. This macro also
- * evaluates its argument more than once, and can't be used in #if. */
+/* JCOBS_MAX_OVERHEAD is JCOBS_MAX_LENGTH(message_len) minus message_len. This macro also evaluates its argument more
+ * than once, and can't be used in #if. */
 #define JCOBS_MAX_OVERHEAD(message_len) (JCOBS_MAX_LENGTH(message_len) - sizeof(char) * (message_len))
-JCOBS_API jcobs_answer jcobs_encode_in_place(void *buffer, size_t buffer_size, size_t message_len)
-    JCOBS_CHANGES(1, 2) JCOBS_CHECKED;
-/* returns:
+
+/* Encodes a message in its own buffer. Before the call the message, which has message_len bytes, begins at index start
+ * of the buffer; the bytes before this index have no effect. After the call the buffer begins with the frame that
+ * jcobs_encode would write. The start must be at least JCOBS_MAX_OVERHEAD(message_len), so that the frame never
+ * overwrites a byte of the message that isn't encoded yet.
+ *
+ * Returns:
  * - OK: consumed is message_len, and length is the length of the frame;
- * - TOO_SMALL, if and only if the buffer is shorter than jcobs_max_length(message_len): consumed and length are 0, and
- *   the buffer is as it was. */
+ * - TOO_SMALL, if and only if the start is less than JCOBS_MAX_OVERHEAD(message_len), or the message isn't within the
+ *   buffer: consumed and length are 0, and the buffer is as it was. */
+JCOBS_API jcobs_answer jcobs_encode_in_place(void *buffer, size_t buffer_size, size_t start, size_t message_len)
+    JCOBS_CHANGES(1, 2) JCOBS_CHECKED;
 
 /* Decodes the first frame of the source, and writes the message to the front of the buffer `message`. Leading zeros are
  * skipped, and the frame ends at the next zero or at the end of the source. A buffer of source_len bytes is always long
- * enough. */
-JCOBS_API jcobs_answer jcobs_decode(const void *source, size_t source_len, void *message, size_t message_size)
-    JCOBS_READS(1, 2) JCOBS_WRITES(3, 4) JCOBS_CHECKED;
-/* returns:
+ * enough. The call may read a byte of the source twice.
+ *
+ * Returns:
  * - OK: consumed counts the leading zeros, the frame and the zero after it; length is the length of the message;
  * - BROKEN: consumed is the same as for OK; length is the length of the frame's output, including the block that is cut
  *   off;
  * - TOO_SMALL, if the frame's output, including a block that is cut off, is longer than the buffer: consumed is the
  *   same as for OK; length is message_size, and the buffer has the first message_size bytes of the output;
  * - EMPTY, if the source has no bytes or only zeros: consumed is source_len, and length is 0. */
+JCOBS_API jcobs_answer jcobs_decode(const void *source, size_t source_len, void *message, size_t message_size)
+    JCOBS_READS(1, 2) JCOBS_WRITES(3, 4) JCOBS_CHECKED;
 
 /* Decodes a frame that was encoded with the given sentinel, and writes the message to the front of the buffer
  * `message`. The frame is at the front of the source, and ends at the first sentinel or at the end of the source. No
  * sentinel is skipped: if the source begins with a sentinel, the message is empty. Even if the sentinel is 0, the
  * results may differ from those of jcobs_decode, for two reasons: jcobs_decode skips leading zeros, and its output of a
- * broken frame includes the bytes of the block that is cut off. */
-JCOBS_API jcobs_answer jcobs_decode_with_sentinel(const void *source, size_t source_len, void *message,
-                                                  size_t message_size, unsigned char sentinel) JCOBS_READS(1, 2)
-    JCOBS_WRITES(3, 4) JCOBS_CHECKED;
-/* returns:
+ * broken frame includes the bytes of the block that is cut off. The call may read a byte of the source twice.
+ *
+ * Returns:
  * - OK: consumed counts the frame and the sentinel after it; length is the length of the message;
  * - BROKEN: consumed is the same as for OK; length is the length of the frame's output, without the block that is cut
  *   off;
  * - TOO_SMALL, if the frame's output, without a block that is cut off, is longer than the buffer: consumed is the same
  *   as for OK; length is message_size, and the buffer has the first message_size bytes of the output;
  * - EMPTY, if the source has no bytes: consumed and length are 0. */
+JCOBS_API jcobs_answer jcobs_decode_with_sentinel(const void *source, size_t source_len, void *message,
+                                                  size_t message_size, unsigned char sentinel) JCOBS_READS(1, 2)
+    JCOBS_WRITES(3, 4) JCOBS_CHECKED;
 
 /* Decodes the frame at the front of the buffer, and writes the message to the front of the same buffer. The frame ends
  * at the first zero or at the end of the buffer. No zero is skipped: if the buffer begins with a zero, the message is
- * empty. The message always fits, because no message is longer than its frame. */
-JCOBS_API jcobs_answer jcobs_decode_in_place(void *buffer, size_t buffer_len) JCOBS_CHANGES(1, 2) JCOBS_CHECKED;
-/* returns:
+ * empty. The message always fits, because no message is longer than its frame. The call may read a byte of the buffer
+ * twice.
+ *
+ * Returns:
  * - OK: consumed counts the frame and the zero after it; length is the length of the message;
  * - BROKEN: consumed is the same as for OK; length is the length of the frame's output, without the block that is cut
  *   off;
  * - EMPTY, if the buffer has no bytes: consumed and length are 0. */
+JCOBS_API jcobs_answer jcobs_decode_in_place(void *buffer, size_t buffer_len) JCOBS_CHANGES(1, 2) JCOBS_CHECKED;
 
 /* Decodes like jcobs_decode_in_place, but with the given sentinel. The call first XORs each byte of the frame with the
  * sentinel, so the bytes between the end of the message and the end of the frame change too. The sentinel after the
- * frame and the bytes after that sentinel aren't changed: the next frame begins at buffer + consumed. */
+ * frame and the bytes after that sentinel aren't changed: the next frame begins at buffer + consumed. The call may read
+ * a byte of the buffer twice.
+ *
+ * Returns the same as jcobs_decode_in_place, with the sentinel instead of the zero. */
 JCOBS_API jcobs_answer jcobs_decode_in_place_with_sentinel(void *buffer, size_t buffer_len, unsigned char sentinel)
     JCOBS_CHANGES(1, 2) JCOBS_CHECKED;
-/* returns: the same as jcobs_decode_in_place, with the sentinel instead of the zero */
 
-/* Returns whether the bytes are a frame for the sentinel 0, and if so, whether encoders write this frame. */
+/* Returns a value of the enum jcobs_kind: whether the bytes are a frame for the sentinel 0, and if so, whether encoders
+ * write this frame. The call may read one of the bytes twice. */
 JCOBS_API unsigned int jcobs_frame_kind(const void *bytes, size_t len) JCOBS_READS(1, 2) JCOBS_CHECKED;
-/* returns: a value of the enum jcobs_kind */
 
 /* Resets the decoder to the initial state, from any state. If a frame was open, the bytes of this frame that arrive
  * later are taken for a new frame. */
@@ -359,10 +370,9 @@ JCOBS_API void jcobs_decoder_reset(jcobs_decoder *decoder) JCOBS_STATE;
  *
  * From the first byte of a frame to the zero that ends it, pass the same buffer with the same size, and don't change
  * the buffer's contents between two calls. Otherwise the status of that frame and the contents of the buffer are
- * unspecified. */
-JCOBS_API jcobs_answer jcobs_decoder_push(jcobs_decoder *decoder, void *buffer, size_t buffer_size, const void *bytes,
-                                          size_t len) JCOBS_STATE JCOBS_WRITES(2, 3) JCOBS_READS(4, 5) JCOBS_CHECKED;
-/* returns:
+ * unspecified. The call may read one of the bytes twice.
+ *
+ * Returns:
  * - OK: consumed counts the bytes up to and including the zero that ends the frame; length is the length of the
  *   message;
  * - BROKEN: consumed is the same as for OK; length is the length of the frame's output, including the block that is cut
@@ -370,26 +380,28 @@ JCOBS_API jcobs_answer jcobs_decoder_push(jcobs_decoder *decoder, void *buffer, 
  * - TOO_SMALL, if the frame's output, including a block that is cut off, is longer than the buffer: consumed is the
  *   same as for OK; length is buffer_size, and the buffer has the first buffer_size bytes of the output;
  * - MORE: consumed is len; length is the number of bytes of the unfinished message that are in the buffer. */
+JCOBS_API jcobs_answer jcobs_decoder_push(jcobs_decoder *decoder, void *buffer, size_t buffer_size, const void *bytes,
+                                          size_t len) JCOBS_STATE JCOBS_WRITES(2, 3) JCOBS_READS(4, 5) JCOBS_CHECKED;
 
-/* Decodes one byte of a stream. The call has the same effect as jcobs_decoder_push with this byte, and is faster. */
+/* Decodes one byte of a stream. The call has the same effect as jcobs_decoder_push with this byte, and is faster.
+ *
+ * Returns the same as jcobs_decoder_push; consumed is 1. */
 JCOBS_API jcobs_answer jcobs_decoder_feed(jcobs_decoder *decoder, void *buffer, size_t buffer_size,
                                           unsigned char byte) JCOBS_STATE JCOBS_WRITES(2, 3) JCOBS_CHECKED;
-/* returns: the same as jcobs_decoder_push; consumed is 1 */
 
 /* Decodes the next bytes of a stream, like jcobs_decoder_push. The frames of this stream were encoded with the given
- * sentinel, and this sentinel ends each frame. In the built library this call is slower than jcobs_decoder_push,
- * because it decodes byte by byte. */
+ * sentinel, and this sentinel ends each frame. The call may read one of the bytes
+ * twice.
+ *
+ * Returns the same as jcobs_decoder_push, with the sentinel instead of the zero. */
 JCOBS_API jcobs_answer jcobs_decoder_push_with_sentinel(jcobs_decoder *decoder, void *buffer, size_t buffer_size,
                                                         const void *bytes, size_t len,
                                                         unsigned char sentinel) JCOBS_STATE JCOBS_WRITES(2, 3)
     JCOBS_READS(4, 5) JCOBS_CHECKED;
-/* returns: the same as jcobs_decoder_push, with the sentinel instead of the zero */
 
-/* Returns whether the decoder is idle, which means that no frame is open. A frame is open from its first byte until the
- * sentinel that ends it. At the end of a stream, the result 0 means that the sentinel after the last frame is
- * missing. */
+/* Returns 1 if the decoder is idle, and 0 if a frame is open. A frame is open from its first byte until the sentinel
+ * that ends it. At the end of a stream, the result 0 means that the sentinel after the last frame is missing. */
 JCOBS_API unsigned int jcobs_decoder_is_idle(const jcobs_decoder *decoder) JCOBS_STATE JCOBS_CHECKED;
-/* returns: 1 if the decoder is idle, and 0 if a frame is open */
 
 /* Resets the encoder to the initial state, from any state. */
 JCOBS_API void jcobs_encoder_reset(jcobs_encoder *encoder) JCOBS_STATE;
@@ -398,60 +410,70 @@ JCOBS_API void jcobs_encoder_reset(jcobs_encoder *encoder) JCOBS_STATE;
  * message without these bytes, or drop the message with jcobs_encoder_reset.
  *
  * From the first push of a message until the message is finished, pass the same buffer with the same size, and don't
- * change the buffer's contents between two calls. Otherwise the contents of the buffer are unspecified. */
-JCOBS_API jcobs_answer jcobs_encoder_push(jcobs_encoder *encoder, void *buffer, size_t buffer_size, const void *bytes,
-                                          size_t len) JCOBS_STATE JCOBS_WRITES(2, 3) JCOBS_READS(4, 5) JCOBS_CHECKED;
-/* returns:
+ * change the buffer's contents between two calls. Otherwise the contents of the buffer are unspecified. The call may
+ * read one of the bytes twice.
+ *
+ * Returns:
  * - OK: consumed is len, and length is the length of the frame so far. This frame is still incomplete: only the call
  *   that finishes the message writes the code of the open block;
  * - TOO_SMALL, if and only if the frame of the message, including these bytes, doesn't fit: consumed and length are 0,
  *   and the state and the buffer are as they were. */
+JCOBS_API jcobs_answer jcobs_encoder_push(jcobs_encoder *encoder, void *buffer, size_t buffer_size, const void *bytes,
+                                          size_t len) JCOBS_STATE JCOBS_WRITES(2, 3) JCOBS_READS(4, 5) JCOBS_CHECKED;
 
-/* Encodes one byte of a message. The call has the same effect as jcobs_encoder_push with this byte, and is faster. */
+/* Encodes one byte of a message. The call has the same effect as jcobs_encoder_push with this byte, and is faster.
+ *
+ * Returns the same as jcobs_encoder_push; consumed is 1 for OK, and 0 for TOO_SMALL. */
 JCOBS_API jcobs_answer jcobs_encoder_feed(jcobs_encoder *encoder, void *buffer, size_t buffer_size,
                                           unsigned char byte) JCOBS_STATE JCOBS_WRITES(2, 3) JCOBS_CHECKED;
-/* returns: the same as jcobs_encoder_push; consumed is 1 for OK, and 0 for TOO_SMALL */
 
 /* Ends the message. The buffer then begins with the frame that jcobs_encode would write for the message, and the
- * encoder is in the initial state. */
-JCOBS_API jcobs_answer jcobs_encoder_finish(jcobs_encoder *encoder, void *buffer, size_t buffer_size) JCOBS_STATE
-    JCOBS_WRITES(2, 3) JCOBS_CHECKED;
-/* returns:
+ * encoder is in the initial state.
+ *
+ * Returns:
  * - OK: consumed is 0, and length is the length of the frame;
  * - TOO_SMALL, if and only if the frame doesn't fit: consumed and length are 0, and the state and the buffer are as
  *   they were. If buffer_size is the same as in the pushes, this status is returned only if buffer_size is 0. */
+JCOBS_API jcobs_answer jcobs_encoder_finish(jcobs_encoder *encoder, void *buffer, size_t buffer_size) JCOBS_STATE
+    JCOBS_WRITES(2, 3) JCOBS_CHECKED;
 
 /* Ends the message like jcobs_encoder_finish, and also writes a zero after the frame. The buffer needs room for the
- * frame and one more byte. */
-JCOBS_API jcobs_answer jcobs_encoder_finish_terminated(jcobs_encoder *encoder, void *buffer,
-                                                       size_t buffer_size) JCOBS_STATE JCOBS_WRITES(2, 3) JCOBS_CHECKED;
-/* returns:
+ * frame and one more byte.
+ *
+ * Returns:
  * - OK: consumed is 0, and length is the length of the frame and its zero;
  * - TOO_SMALL, if the frame and its zero don't fit: consumed and length are 0, and the state and the buffer are as they
  *   were. */
+JCOBS_API jcobs_answer jcobs_encoder_finish_terminated(jcobs_encoder *encoder, void *buffer,
+                                                       size_t buffer_size) JCOBS_STATE JCOBS_WRITES(2, 3) JCOBS_CHECKED;
 
 /* Ends the message like jcobs_encoder_finish, but XORs each byte of the frame with the given sentinel. Push the message
- * with jcobs_encoder_push or jcobs_encoder_feed, whatever the sentinel is. */
+ * with jcobs_encoder_push or jcobs_encoder_feed, whatever the sentinel is.
+ *
+ * Returns the same as jcobs_encoder_finish. */
 JCOBS_API jcobs_answer jcobs_encoder_finish_with_sentinel(jcobs_encoder *encoder, void *buffer, size_t buffer_size,
                                                           unsigned char sentinel) JCOBS_STATE
     JCOBS_WRITES(2, 3) JCOBS_CHECKED;
-/* returns: the same as jcobs_encoder_finish */
 
 /* Ends the message like jcobs_encoder_finish_terminated, but XORs each byte of the frame with the given sentinel, and
  * writes this sentinel after the frame instead of a zero. Push the message with jcobs_encoder_push or
- * jcobs_encoder_feed, whatever the sentinel is. */
+ * jcobs_encoder_feed, whatever the sentinel is.
+ *
+ * Returns the same as jcobs_encoder_finish_terminated. */
 JCOBS_API jcobs_answer jcobs_encoder_finish_terminated_with_sentinel(jcobs_encoder *encoder, void *buffer,
                                                                      size_t buffer_size,
                                                                      unsigned char sentinel) JCOBS_STATE
     JCOBS_WRITES(2, 3) JCOBS_CHECKED;
-/* returns: the same as jcobs_encoder_finish_terminated */
+
+/* So many bytes are enough for each text that jcobs_strerror writes. */
+#define JCOBS_TEXT_LENGTH 48
 
 /* Writes a short English description of a status to `text`, followed by a '\0'. A description that doesn't fit is cut
  * off; JCOBS_TEXT_LENGTH bytes are always enough. If text_size is 0, nothing is written. For a number that isn't a
- * status, the description is "unknown status". */
-#define JCOBS_TEXT_LENGTH 48
+ * status, the description is "unknown status".
+ *
+ * Returns the length of the whole description, without the '\0'. */
 JCOBS_API size_t jcobs_strerror(unsigned int status, char *text, size_t text_size) JCOBS_WRITES(2, 3);
-/* returns: the length of the whole description, without the '\0' */
 
 /* Returns the version of the library, as a number of the same form as JCOBS_VERSION. */
 JCOBS_API unsigned int jcobs_version(void);

@@ -184,11 +184,12 @@ constexpr std::size_t max_overhead(std::size_t message_len) noexcept
     return jcobs_encode_terminated_with_sentinel(message.data(), message.size(), frame.data(), frame.size(), sentinel);
 }
 
-// Encodes a message in its own buffer. Before the call the message begins at index max_overhead(message_len) of the
-// buffer. If the status is JCOBS_OK, the frame begins at index 0 after the call. Otherwise the buffer is as it was.
-[[nodiscard]] inline jcobs_answer encode_in_place(buffer bytes, std::size_t message_len) noexcept
+// Encodes a message in its own buffer. Before the call the message begins at index start of the buffer, which must be at
+// least max_overhead(message_len). If the status is JCOBS_OK, the frame begins at index 0 after the call. Otherwise the
+// buffer is as it was.
+[[nodiscard]] inline jcobs_answer encode_in_place(buffer bytes, std::size_t start, std::size_t message_len) noexcept
 {
-    return jcobs_encode_in_place(bytes.data(), bytes.size(), message_len);
+    return jcobs_encode_in_place(bytes.data(), bytes.size(), start, message_len);
 }
 
 // Decodes the first frame of the source, and writes the message to the front of a buffer. Leading zeros are skipped.
@@ -309,19 +310,12 @@ class receiver
 
   private:
     // Decodes the bytes up to and including the first sentinel that ends a frame, or all bytes if no frame ends in
-    // them. The caller passes at least one byte. For a sentinel other than 0 the bytes are fed one by one, because the
-    // archives for devices don't have jcobs_decoder_push_with_sentinel.
+    // them.
     jcobs_answer next(const unsigned char *bytes, std::size_t len) noexcept
     {
         if (sentinel_ == 0)
             return jcobs_decoder_push(&decoder_, buffer_.data(), buffer_.size(), bytes, len);
-        std::size_t taken = 0;
-        jcobs_answer answer{};
-        do {
-            answer = feed(bytes[taken++]);
-        } while (answer.status == JCOBS_MORE && taken < len);
-        answer.consumed = taken;
-        return answer;
+        return jcobs_decoder_push_with_sentinel(&decoder_, buffer_.data(), buffer_.size(), bytes, len, sentinel_);
     }
 
     jcobs_decoder decoder_ = JCOBS_DECODER_INIT;
@@ -385,8 +379,7 @@ class sender
     }
 
   private:
-    // XORs each byte of the finished frame with the sentinel, and returns the frame. The bytes are XORed here, because
-    // the archives for devices don't have the calls that finish a message with a sentinel other than 0.
+    // XORs each byte of the finished frame with the sentinel, and returns the frame.
     view for_sentinel(jcobs_answer answer, unsigned char sentinel) noexcept
     {
         for (std::size_t i = 0; sentinel != 0 && i < answer.length; i++)

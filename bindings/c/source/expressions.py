@@ -3,7 +3,7 @@
 import re
 
 import names
-from kinds import BOOL, BYTE, END, FRAME, NUMBERS, PIECE, SCALARS, USIZE, Kinds, Slice, Value
+from kinds import BOOL, BYTE, END, FRAME, LENGTH, NUMBERS, PIECE, SCALARS, USIZE, Kinds, Slice, Value
 from rattle import Unknown
 
 # The names of these constants in jcobs.h.
@@ -13,7 +13,7 @@ MIRRORED = {"<": ">", ">": "<", "<=": ">=", ">=": "<="}  # to put the constant o
 # The precedence of C's operators. Unary operators and casts have 15, and an expression without an operator has 20.
 LEVELS = {"||": 1, "&&": 2, "|": 3, "^": 4, "&": 5, "==": 6, "!=": 6, "<": 7, ">": 7, "<=": 7, ">=": 7, "+": 9, "-": 9}
 LEVELS |= {"*": 10, "/": 10, "%": 10}
-SIMPLE = ("path", "number", "bool", "field", "index", "binary")
+SIMPLE = ("path", "number", "bool", "field", "index", "binary", "as")
 
 
 class Expressions(Kinds):
@@ -68,9 +68,8 @@ class Expressions(Kinds):
 
     def ended(self, variant, words, expected=END):
         """Returns the end of a piece or a frame, with its numbers. A number that the end doesn't have is 0."""
-        kind = PIECE if expected == PIECE else END
-        words = [self.end_kind(variant), *words, *["0"] * (1 + (kind == PIECE) - len(words))]
-        return Value(f"jcobs_make_{kind[0]}({', '.join(words)})", kind)
+        words = [self.end_kind(variant), *words, *["0"] * (2 - len(words))]
+        return Value(f"jcobs_make_end({', '.join(words)})", PIECE if expected == PIECE else END)
 
     def end_kind(self, variant):
         """Returns the kind of end that a variant stands for."""
@@ -121,17 +120,22 @@ class Expressions(Kinds):
     def on_borrow(self, tree, expected):
         if tree[2][0] == "array" and len(tree[2][1]) == 1:  # one byte, by its address
             return Slice(f"&{self.value(tree[2][1][0]).at(15)}", "1", False)
+        if tree[2] == ("array", []):
+            return Slice("NULL", "0", False)
         of = self.value(tree[2], expected)
         return of if isinstance(of, Slice) else Value(f"&{of.at(15)}", ("ref", tree[1], of.kind), 15)
 
     def on_deref(self, tree, expected):
         of = self.value(tree[1])
+        if of.text.startswith("&"):
+            return Value(of.text[1:], of.kind[2])
         return Value(f"*{of.at(15)}", of.kind[2], 15)
 
     def on_not(self, tree, expected):
         of = self.value(tree[1])
-        if re.fullmatch(r"\w+ == \w+", of.text):
-            return Value(of.text.replace("==", "!="), BOOL, 6)
+        if found := re.fullmatch(r"([\w.>-]+) (==|!=|<=|>=|<|>) (\w+)", of.text):
+            signs = ["==", "<", ">", "<=", ">=", "!="]
+            return Value(f"{found[1]} {signs[-1 - signs.index(found[2])]} {found[3]}", BOOL, 6)
         return Value(of.text[1:] if of.text.startswith("!") and of.level == 15 else f"!{of.at(15)}", BOOL, 15)
 
     def on_as(self, tree, expected):
@@ -146,8 +150,6 @@ class Expressions(Kinds):
         _, sign, left, right = tree
         logical = sign in ("&&", "||")
         wanted = None if logical or sign in COMPARED else expected
-        if sign == "<" and left[0] == "number" and str(int(left[1]) + 1) in names.NUMBERS:  # compare with the number that has a name
-            sign, left, right = ">=", right, ("number", str(int(left[1]) + 1))
         a, b = self.value(left, wanted), self.value(right, wanted)
         if sign in MIRRORED and a.literal and not b.literal:
             a, b, sign = b, a, MIRRORED[sign]
@@ -157,7 +159,7 @@ class Expressions(Kinds):
         level = LEVELS[sign]
         # Compilers warn about && in || without brackets.
         text = f"{a.at(2 if logical and a.level > 2 else level + (a.level == 2 and sign == '||') * 9)} {sign} "
-        text += b.at(level + 1 + (b.level == 2 and sign == "||") * 9)
+        text += b.at(level + (not logical) + (b.level == 2 and sign == "||") * 9)
         if logical or sign in COMPARED:
             return Value(text, BOOL, level)
         if a.kind == BYTE and not (a.literal and b.literal):
@@ -181,7 +183,8 @@ class Expressions(Kinds):
         _, condition, then, other = tree
         if condition[0] == "let" or not other:
             return False
-        return all(len(it) == 1 and it[0][0] == "value" and it[0][1][0] in SIMPLE for it in (then, other))
+        parts = [it[0][1] for it in (then, other) if len(it) == 1 and it[0][0] == "value"]
+        return len(parts) == 2 and all(it[0] in SIMPLE or it[:2] == ("method", "min") for it in parts)
 
     def on_if(self, tree, expected):
         if not self.is_simple(tree):
@@ -191,24 +194,13 @@ class Expressions(Kinds):
             return self.value(tree[1])
         return Value(f"{self.value(tree[1]).at(1)} ? {a.at(1)} : {b.at(0)}", b.kind if a.literal else a.kind, 0)
 
-    def on_match(self, tree, expected):
-        """Translates a match that adds the number of consumed bytes to an end. If there is no end, the numbers have no meaning."""
-        (some, with_count), (none, nothing) = tree[2]
-        end, name = self.value(tree[1]), some[2][0][1]
-        if end.kind != END or none != ("variant", "None", []) or nothing != [("value", ("path", "None"))]:
-            raise Unknown(f"{self.name}: match as a value")
-        self.env[name] = end
-        return self.value(with_count[0][1], PIECE)
-
-    def is_with_count(self, tree):
-        """Returns whether a match returns `Some((end, count))` for `Some(end)`, and `None` for `None`."""
-        arms = [body for _, body in tree[2]] if tree[0] == "match" else []
-        return len(arms) == 2 and arms[0][0][1][:2] == ("call", "Some") and arms[0][0][1][2][0][0] == "tuple"
-
     def on_tuple(self, tree, expected):
-        if tree[1]:
+        if not tree[1]:
+            return Value("", None)
+        if not expected or expected[0] != "several":
             raise Unknown(f"{self.name}: a tuple")
-        return Value("", None)
+        words = [self.value(it).text for it in tree[1]]
+        return Value(f"{self.out.several(expected[1], self)}({', '.join(words)})", expected)
 
     def on_call(self, tree, expected):
         _, name, args = tree
@@ -220,19 +212,39 @@ class Expressions(Kinds):
             return Value("", None)
         return self.called(self.find(name), args)
 
+    def found(self, tree):
+        """Translates `memchr(byte, bytes).unwrap_or(bytes.len())`: the index of the first such byte, or the number of bytes."""
+        _, _, (_, _, (byte, bytes)), (other,) = tree
+        if other != ("method", "len", bytes, []):
+            raise Unknown(f"{self.name}: memchr or {other}")
+        of = self.value(bytes)
+        call = f"(const unsigned char *)memchr({of.pointer}, {self.value(byte, BYTE).text}, {of.length})"
+        self.put(f"const unsigned char *found = {call};")
+        return Value(f"found != NULL ? (size_t)(found - {of.pointer}) : {of.length}", USIZE, 0)
+
+    def copied(self, name, to, args):
+        """Translates a copy of a slice."""
+        if name == "copy_from_slice":
+            of = self.value(args[0])
+            return Value(f"memcpy({to.pointer}, {of.pointer}, {of.length})", None)
+        of, at = self.part(to, args[0]), self.value(args[1], USIZE)
+        return Value(f"memmove({to.pointer} + {at.at(10)}, {of.pointer}, {of.length})", None)
+
     def wrapped(self, name, tree, expected):
         if expected == BOOL:  # a Result without a value
             return Value("1" if name == "Ok" else "0", BOOL, literal=True)
+        if expected == LENGTH:
+            return self.value(tree) if name == "Ok" else Value("0", LENGTH, literal=True)
         if expected == FRAME:
             return Value(f"jcobs_make_frame_length({f'1, {self.value(tree).text}' if name == 'Ok' else '0, 0'})", FRAME)
         if name == "Some" and tree[0] == "tuple":
             end, count = (self.value(it) for it in tree[1])
             if end.text.startswith("jcobs_make_end("):
-                return Value(f"jcobs_make_piece({end.text[15:-1]}, {count.text})", PIECE)
+                return Value(f"{end.text.removesuffix('0)')}{count.text})", PIECE)
             self.want_simple(end)
-            return Value(f"jcobs_make_piece({end.at(20)}.kind, {end.at(20)}.count, {count.text})", PIECE)
+            return Value(f"jcobs_make_end({end.at(20)}.kind, {end.at(20)}.count, {count.text})", PIECE)
         of = self.value(tree)
-        return of if of.kind == END else self.ended(name, [of.text])
+        return of if of.kind in (END, PIECE) else self.ended(name, [of.text])
 
     def want_simple(self, *values):
         """Checks that these expressions, which are written twice, contain no call."""
@@ -241,42 +253,28 @@ class Expressions(Kinds):
                 raise Unknown(f"{self.name}: {value.text} twice")
 
     def called(self, found, args, receiver=None):
-        crate, path, item = found = self.out.behind(found)
+        if found[2][1] in names.SAME:
+            found = self.find(names.SAME[found[2][1]])
+        found, constants = self.out.behind(found)
+        args = [*args, *constants]
+        crate, path, item = found
         there = self.other(crate, path, item[1])
         if there.is_same(item):
             return self.value(args[0])
         if item[1] in names.WRITTEN_OUT:
-            there.env["self"] = receiver
-            return there.value(item[4][0][1], there.kind_of(item[3]))
+            there.env = {name: receiver if name == "self" else self.value(args[i - bool(receiver)], there.kind_of(kind)) for i, (name, kind) in enumerate(item[2])}
+            return there.value(item[4][0][1], there.result_of(item))
         if start := there.resets(item):
             return Value(f"{start}_init({receiver.text})", None)
-        if (result := self.known_result(there, item, args)) is not None:
-            return result
-        name = self.out.function(found)
+        name = self.out.function(found, self)
         words = []
         for i, (param, kind) in enumerate(item[2]):
             given = receiver if receiver and i == 0 else self.value(args[i - bool(receiver)], there.kind_of(kind))
             if isinstance(given, Slice):
                 words += [given.pointer] + [given.length] * ((path, item[1], param) not in self.out.unused)
-            elif kind[0] == "path" and given.kind and given.kind[0] == "ref":
-                words.append(f"*{given.at(15)}")
             else:
                 words.append(given.text)
-        return Value(f"{name}({', '.join(words)})", there.kind_of(item[3]))
-
-    def known_result(self, there, item, args):
-        """If a function is a match of one of its arguments, and this argument is an end without numbers, returns the result."""
-        of = item[4][0][1] if isinstance(item[4], list) and len(item[4]) == 1 and item[4][0][0] == "value" else ("none",)
-        if of[0] != "match" or of[1] not in [("path", name) for name, _ in item[2]] or len(args) != len(item[2]):
-            return None
-        given = args[[name for name, _ in item[2]].index(of[1][1])]
-        if given[:2] != ("call", "Err") or given[2][0][0] != "path":
-            return None
-        for pattern, body in of[2]:
-            if self.innermost(pattern) == ("variant", given[2][0][1], []) and len(body) == 1:
-                there.env = {name: self.value(arg, there.kind_of(kind)) for (name, kind), arg in zip(item[2], args) if arg is not given}
-                return there.value(body[0][1], there.kind_of(item[3]))
-        return None
+        return Value(f"{name}({', '.join(words)})", there.result_of(item))
 
     def is_same(self, item):
         """Returns whether a function returns its argument unchanged, because both are the same jcobs_end in C."""
@@ -307,7 +305,7 @@ class Expressions(Kinds):
             if len(body) != 1:
                 return None
             tree = body[0]
-        if tree[0] != "struct" or self.variant(tree[1]) or {it for _, it in tree[2]} != {("number", "0")}:
+        if tree[0] != "struct" or tree[3] or self.variant(tree[1]) or {it for _, it in tree[2]} != {("number", "0")}:
             return None
         return self.out.started(self.find(tree[1])[2], self)
 
@@ -323,13 +321,19 @@ class Expressions(Kinds):
             if args[0] != ("number", "0"):
                 raise Unknown(f"{self.name}: a sum or {args[0]}")
             return Value(f"jcobs_sum_or_zero({self.value(of[2]).text}, {self.value(of[3][0]).text})", USIZE)
-        value = self.value(of)
+        if name == "unwrap_or" and of[:2] == ("call", "memchr"):
+            return self.found(tree)
+        value = self.receiver(of)
         if isinstance(value, Slice):
             if name == "len":
                 return Value(value.length, USIZE, 20 if re.fullmatch(r"\w+", value.length) else 9)
             if name == "is_empty":
                 return Value(f"{value.length} == 0", BOOL, 6)
+            if name in ("copy_from_slice", "copy_within"):
+                return self.copied(name, value, args)
             raise Unknown(f"{self.name}: {name} of a slice")
+        if value.kind == PIECE and name in names.ACCESSORS:
+            return Value(f"{value.at(20)}.{names.ACCESSORS[name]}", USIZE)
         if name in ("is_err", "is_ok"):
             text = value.text if value.kind == BOOL else f"{value.at(20)}.fits"
             return Value(text, BOOL) if name == "is_ok" else Value(f"!{text}", BOOL, 15)
@@ -339,16 +343,21 @@ class Expressions(Kinds):
         receiver = value if value.kind[0] == "ref" else Value(f"&{value.at(15)}", ("ref", True, kind), 15)
         return self.called(self.find(f"{kind[1]}::{name}"), args, receiver)
 
+    def receiver(self, tree):
+        """Returns the value whose method is called. A new struct is put into a variable."""
+        start = self.start(tree)
+        if not start:
+            return self.value(tree)
+        name = start.rsplit("_", 1)[-1]
+        self.put(f"{start} {name} = {start.upper()}_INIT;")
+        return Value(name, ("path", tree[1].rpartition("::")[0], []))
+
     def of_number(self, name, value, kind, args):
         other = self.value(args[0], kind)
-        if name == "min" and kind == USIZE:
-            return Value(f"jcobs_min({value.text}, {other.text})", kind)
+        if name in names.METHODS and kind == USIZE:
+            return Value(f"jcobs_{name}({value.text}, {other.text})", kind)
         self.want_simple(value, other)
         if name == "div_ceil":
             by = other.at(11)
             return Value(f"{value.at(10)} / {by} + ({value.at(10)} % {by} != 0 ? 1 : 0)", kind, 9)
-        if name in ("wrapping_add", "wrapping_sub"):
-            sign = "+" if name.endswith("add") else "-"
-            text = f"{value.at(9)} {sign} {other.at(10)}"
-            return Value(f"({SCALARS[kind[1]]})({text})", kind, 15) if kind == BYTE else Value(text, kind, 9)
         raise Unknown(f"{self.name}: {name} of a number")

@@ -8,8 +8,6 @@ from kinds import Slice, Value
 from rattle import Unknown
 from statements import INDENT, Statements
 
-# Functions that a loop over bytes calls. They are inlined, so that the loop's state stays in registers.
-INLINE = {"take_byte", "append"}
 TYPED = re.compile(r"    (const )?(enum |unsigned |JCOBS_)?[a-zA-Z_]+ \**(const )?\w+( = .*)?[;,]$")
 
 
@@ -17,23 +15,21 @@ class Function(Statements):
     def __init__(self, out, crate, path, item):
         self.out, self.crate, self.path = out, crate, path
         _, self.name, self.params, self.result, self.body, self.docs, self.attributes = item
-        self.key = (path, self.name)
+        self.key, self.is_above = (path, self.name), False
         self.is_exported = any("no_mangle" in it for it in self.attributes)
         self.name_here = self.name  # the name of the function whose body this is
-        self.passed, self.constants = {}, {}  # the body's names of this function's parameters, and the body's constant parameters
+        self.passed = {}  # the body's names of this function's parameters
         self.lines, self.depth, self.env, self.declared_names = [], 1, {}, {}
 
-    def take_body(self, crate, path, item, args, converted=None):
-        """Takes the body of a function to which this function passes its parameters on, and which nothing else calls.
+    def take_body(self, crate, path, item, args):
+        """Takes the body of a function to which this function passes its parameters on."""
+        self.crate, self.path, self.name_here, self.body = crate, path, item[1], item[4]
+        self.passed = {arg[1]: name for (name, _), arg in zip(item[2], args)}
 
-        `converted` is given if the results are converted. It has the name of a length, an expression with this name that
-        replaces the length, and an expression that replaces an error.
-        """
-        self.crate, self.path, self.name_here = crate, path, item[1]
-        self.body = with_results(item[4], *converted) if converted else item[4]
-        names_here = {arg[1]: name for (name, _), arg in zip(item[2], args) if arg[0] == "path"}
-        self.passed = {name: names_here[self.passed.get(name, name)] for name, _ in self.params}
-        self.constants |= {name: arg for (name, _), arg in zip(item[2], args) if arg[0] != "path"}
+    @property
+    def own(self):
+        """The function whose body this is, without the body."""
+        return ("fn", self.name_here, self.params, self.result)
 
     def other(self, crate, path, name):
         """Returns an object that translates a function or a constant of another file."""
@@ -52,8 +48,18 @@ class Function(Statements):
             if not re.search(rf"\b{length}\b", text):
                 self.out.unused.add((*self.key, name))
                 params.remove(f"size_t {length}")
+        text = self.with_unused(text, params)
         lines = [it for line in self.with_pointers(text).split("\n") for it in wrapped(line)]
         return "\n".join([self.comment(), *self.head(params), "{", *paragraphs(lines), "}"])
+
+    def with_unused(self, text, params):
+        """Uses each parameter that is used only above the threshold, so that compilers don't warn without JCOBS_FAST."""
+        below = re.sub(r"#ifdef JCOBS_FAST\n.*?#endif|/\*.*?\*/", "", text, flags=re.S)
+        given = [re.search(r"\w+$", it)[0] for it in params]
+        for name in [*given, *re.findall(r"^ +[a-z][\w ]*?[ *](\w+) = ", below, re.M)] if below != text else []:
+            if not re.search(rf"\b{name}\b(?! = )", below):
+                text = re.sub(rf"(#ifdef JCOBS_FAST\n(?:(?!#endif).)*?\n)( *)([^\n]*\b{name}\b(?! = )(?:(?!#endif).)*?)#endif", rf"\1\2\3#else\n{INDENT}(void){name};\n#endif", text, count=1, flags=re.S)
+        return text
 
     def parameters(self):
         """Returns the parameters in C, and records the meaning of each name of Rattle."""
@@ -74,13 +80,15 @@ class Function(Statements):
             words.append(self.declared(kind, c_name))
             self.env[own] = Value(c_name, kind)
         self.declared_names = {re.search(r"\w+$", word)[0]: 0 for word in words}
-        for name, tree in self.constants.items():
-            self.env[name] = self.value(tree)
         return words
 
     def c_name(self, name):
         """Returns the C name of a parameter or a variable."""
-        return names.VARIABLES.get(self.name_here, {}).get(name) or names.VARIABLES[""].get(name, name)
+        for of in (self.name_here, ""):
+            if name in names.VARIABLES.get(of, {}):
+                self.out.renamed.add((of, name))
+                return names.VARIABLES[of][name]
+        return name
 
     def length_name(self, name, is_mutable):
         """Returns the name of a slice's length: the name in names.py, if there is one. Otherwise it ends in `_size` or `_len`."""
@@ -124,15 +132,34 @@ class Function(Statements):
             if old in text:
                 self.out.replaced.add((self.name_here, old))
                 text = text.replace(old, new)
-        return re.sub(r"\[?`([^`]*)`\]?(\([^)]*\))?", lambda found: quoted(self.word_in_c(found[1])), text)
+        return re.sub(r"\[?`([^`]*)`\]?(\([^)]*\))?", lambda found: quoted(self.word_in_c(found[1], found[2] or "")), text)
 
-    def word_in_c(self, word):
-        """Translates a text in backticks in a comment: the name of a parameter, a variable or another function, or a number."""
+    def word_in_c(self, word, link=""):
+        """Translates a text in backticks in a comment: the name of a parameter, a variable or another function, or a number.
+
+        `link` is the path in brackets behind it. It may name a method of this function's type.
+        """
+        if word == "None":
+            return "JCOBS_END_NONE"
+        if found := re.fullmatch(r"(\w+)( [-+] \d+)", word):
+            return self.word_in_c(found[1]) + found[2]
+        if link.startswith("(Self::"):
+            word = f"{self.name_here.partition('::')[0]}::{link[7:-1]}"
         if self.c_name(word) != word or word in self.known_names():
             return self.c_name(word)
         if word in self.out.calls or not re.search(r"[A-Za-z]", word) or any(word in fields for fields in self.out.given):
             return word
-        raise Unknown(f"{self.name}: its comment names {word}, which C doesn't know")
+        owner = self.name_here.rpartition("::")[0]
+        for name in (f"{owner}::{word}", word):
+            try:
+                crate, path, item = self.find(name)
+                break
+            except Unknown:
+                pass
+        else:
+            raise Unknown(f"{self.name}: its comment names {word}, which C doesn't know")
+        self.out.mentioned.add((path, item[1]))
+        return self.out.name_of(Function(self.out, crate, path, item))
 
     def known_names(self):
         """Returns the names that comments of this function may contain: its parameters, its variables and the members of structs."""
@@ -143,33 +170,11 @@ class Function(Statements):
         if self.is_exported:
             text = self.out.calls[self.name].text
         else:
-            is_rare = self.name in names.RARE
-            is_inline = not is_rare and (self.name.rsplit("::", 1)[-1] in INLINE or any("inline(always)" in it for it in self.attributes))
-            is_apart = any("inline(never)" in it for it in self.attributes)
+            is_inline = self.name not in names.ONE_COPY and any("inline(always)" in it for it in self.attributes)
+            is_apart = self.name in names.APART or any("inline(never)" in it for it in self.attributes)
             name = self.out.names[self.key]
-            text = f"static {'JCOBS_INLINE ' * is_inline}{'JCOBS_APART ' * is_apart}{'JCOBS_RARE ' * is_rare}{self.declared(self.kind_of(self.result), name)}({', '.join(params) or 'void'})"
+            text = f"static {'JCOBS_ONCE ' * (self.name in names.ONE_COPY)}{'JCOBS_INLINE ' * is_inline}{'JCOBS_APART ' * is_apart}{self.declared(self.result_of(self.own), name)}({', '.join(params) or 'void'})"
         return wrapped(text)
-
-
-def with_results(body, name, length, other):
-    """Returns the statements of a function, with these results in place of a length and of an error."""
-
-    def put(tree, found):
-        if tree == ("path", name):
-            return found
-        return type(tree)(put(it, found) for it in tree) if isinstance(tree, (tuple, list)) else tree
-
-    def changed(tree):
-        if not isinstance(tree, (tuple, list)) or not tree:
-            return tree
-        if tree[0] == "return" or tree[0] == "value" and tree is body[-1]:
-            kind, result, inner = tree[1]
-            if kind != "call" or result not in ("Ok", "Err"):
-                raise Unknown(f"the result {tree[1]}")
-            return (tree[0], put(length, inner[0]) if result == "Ok" else other)
-        return type(tree)(changed(it) for it in tree)
-
-    return changed(body)
 
 
 def wrapped(head):
@@ -196,6 +201,10 @@ def paragraphs(lines):
     """Returns the lines of a function, with an empty line before and after the declarations among its statements."""
     out, was_declared = [], None
     for i, line in enumerate(lines):
+        if line.startswith("#if") and was_declared:
+            out.append("")
+        if line.startswith("#"):
+            was_declared = None
         if re.match(rf"{INDENT}[^\s}}]", line):  # a statement, and not a part of one
             code = next(it for it in lines[i:] if re.match(rf"{INDENT}(?!/\*)[^\s}}]", it))  # without the comment before it
             is_declared = bool(TYPED.match(code) and not code.startswith(f"{INDENT}return"))

@@ -1,8 +1,9 @@
-"""Reads the declarations of jcobs.h, and the contracts of the calls in crates/cobs_small."""
+"""Reads the declarations of jcobs.h, and the contracts of the calls in crates/cobs_c."""
 
 import re
 from dataclasses import dataclass
 
+import names
 from rattle import Unknown
 
 SIZES = {"size_t": 8, "unsigned char": 1, "JCOBS_STATUS": 4}
@@ -10,6 +11,11 @@ SIZES = {"size_t": 8, "unsigned char": 1, "JCOBS_STATUS": 4}
 SAYS = {
     "Decodes ": """the result and the written bytes are those that the definition of COBS gives for the source and
         message_size, and all other bytes of the buffer are as they were. A buffer as long as the source is never too small.""",
+    "DecodesFor sentinel ": """the result and the written bytes are those that the definition of COBS gives for the source, the
+        sentinel and message_size, and all other bytes of the buffer are as they were. A buffer as long as the source is never
+        too small.""",
+    "DecodesInPlaceFor sentinel ": """the result and every byte of the buffer are those that the definition of COBS gives for the
+        sentinel and the bytes that were in the buffer before the call.""",
     "DecodesInPlace ": """the result and every byte of the buffer are those that the definition of COBS gives for the bytes that
         were in the buffer before the call.""",
     "DecodesNext ": """the result, the state and the buffer are those that the definition of the stream gives after these
@@ -17,6 +23,8 @@ SAYS = {
         and length is at most buffer_size.""",
     "Encodes ": """if the frame of the message fits, the buffer begins with it, and the bytes after it are as they were.
         Otherwise the status is TOO_SMALL, and the buffer is as it was.""",
+    "EncodesFor sentinel ": """if the frame of the message fits, the buffer begins with it, each byte XORed with the sentinel, and
+        the bytes after it are as they were. Otherwise the status is TOO_SMALL, and the buffer is as it was.""",
     "EncodesInPlace ": """if the longest frame fits, the buffer begins with the frame of the message, and the bytes after this
         frame are as they were. Otherwise the status is TOO_SMALL, and the buffer is as it was.""",
     "EncodesNext ": """the status is OK if and only if the frame of the message so far, including these bytes, fits. If the
@@ -24,10 +32,18 @@ SAYS = {
         passed, and length is at most buffer_size.""",
     "EncodesTerminated 0 ": """if the frame of the message and the zero fit, the buffer begins with them, and the bytes after
         them are as they were. Otherwise the status is TOO_SMALL, and the buffer is as it was.""",
-    "Finishes 0 ": """if the frame of all bytes that were taken fits, the buffer begins with it, and the encoder is in its
+    "EncodesTerminated sentinel ": """if the frame of the message and the sentinel fit, the buffer begins with them, and the bytes
+        after them are as they were. Otherwise the status is TOO_SMALL, and the buffer is as it was.""",
+    "Finishes 0 IsFrameOnWire ": """if the frame of all bytes that were taken fits, the buffer begins with it, and the encoder is in its
         initial state. Otherwise the status is TOO_SMALL, and the state and the buffer are as they were. In every state
         consumed is 0, and length is at most buffer_size.""",
-    "Finishes 1 ": """if the frame of all bytes that were taken and the zero fit, the buffer begins with them, and the encoder is
+    "Finishes 0 (IsFrameOnWireFor sentinel) ": """if the frame of all bytes that were taken fits, the buffer begins with it, each
+        byte XORed with the sentinel, and the encoder is in its initial state. Otherwise the status is TOO_SMALL, and the state
+        and the buffer are as they were. In every state consumed is 0, and length is at most buffer_size.""",
+    "Finishes 1 (IsTerminatedFrame sentinel) ": """if the frame of all bytes that were taken and the sentinel fit, the buffer begins
+        with them, and the encoder is in its initial state. Otherwise the status is TOO_SMALL, and the state and the buffer are
+        as they were. In every state consumed is 0, and length is at most buffer_size.""",
+    "Finishes 1 (IsTerminatedFrame 0) ": """if the frame of all bytes that were taken and the zero fit, the buffer begins with them, and the encoder is
         in its initial state. Otherwise the status is TOO_SMALL, and the state and the buffer are as they were. In every
         state consumed is 0, and length is at most buffer_size.""",
     "IsFreshDecoder ": "after the call the decoder has taken no byte, whatever its state was.",
@@ -85,6 +101,8 @@ def contracts(sources):
     pattern = r'((?:^///[^\n]*\n)+)^#\[unsafe\(no_mangle\)\]\n^pub extern "C" fn (\w+)(.*?)^\{'
     for path in sources:
         for doc, name, rest in re.findall(pattern, path.read_text(), re.S | re.M):
+            if name in names.BY_HAND:
+                continue
             text = " ".join(re.findall(r"^/// ?(.*)", doc, re.M))
             clauses = re.findall(r"^    ensures \w+ \{\s*(.*?)\s*\}$", rest, re.S | re.M)
             if len(clauses) != rest.count("ensures"):

@@ -3,28 +3,28 @@
 # Functions. A function that isn't listed keeps its name in Rattle, with jcobs_ or the name of its type before it.
 FUNCTIONS = {
     "UnbufferedDecoder::end": "jcobs_decoder_end_piece",
-    "UnbufferedDecoder::feed_each": "jcobs_decoder_take_bytes",
-    "UnbufferedEncoder::append_each": "jcobs_encoder_append_bytes",
-    "UnbufferedEncoder::finalize": "jcobs_encoder_close",
-    "UnbufferedEncoder::is_within": "jcobs_encoder_is_valid",
-    "UnbufferedEncoder::push_each": "jcobs_encoder_try_append",
-    "close_block": "jcobs_close_block",
-    "decode_blocks_each": "jcobs_decode_blocks",
-    "decode_zero": "jcobs_decoder_feed_zero",
+    "UnbufferedDecoder::feed": "jcobs_decoder_step",
+    "UnbufferedDecoder::feed_piece_with_sentinel": "jcobs_decoder_take_bytes",
+    "UnbufferedEncoder::feed": "jcobs_encoder_try_feed",
+    "UnbufferedEncoder::close": "jcobs_encoder_close_block",
+    "UnbufferedEncoder::finalize": "jcobs_encoder_try_finish",
+    "UnbufferedEncoder::push": "jcobs_encoder_try_push",
+    "answer_of": "jcobs_end_answer",
+    "decode_in_place": "jcobs_read_in_place",
+    "decode_in_place_report": "jcobs_read_frame_in_place",
+    "decode_in_place_with_sentinel": "jcobs_read_in_place_for",
+    "decode_with_sentinel": "jcobs_read_frame_for",
     "done": "jcobs_ok_answer",
-    "encode_byte": "jcobs_encoder_feed_byte",
+    "encode": "jcobs_write_frame",
     "encode_in_place": "jcobs_write_in_place",
-    "end_of": "jcobs_encoder_length",
-    "ended": "jcobs_ended_piece",
-    "fits_each": "jcobs_extra_codes_fit",
-    "held": "jcobs_decoder_length",
-    "len_to_zero": "jcobs_length_to_zero",
+    "frame_len": "jcobs_encoder_length",
     "max_encoding_overhead": "jcobs_max_overhead",
-    "result_by": "jcobs_in_place_answer",
+    "position_or_len": "jcobs_find",
     "result_of": "jcobs_decoder_answer",
-    "through_piece": "jcobs_find_end",
+    "terminated": "jcobs_terminated_answer",
     "too_small": "jcobs_too_small_answer",
-    "write_each": "jcobs_write_blocks",
+    "try_encode": "jcobs_try_write_frame",
+    "try_encode_with_sentinel": "jcobs_try_write_frame_for",
 }
 # For each part of jcobs.c, the call of jcobs.h with which the part begins, and the heading of the part.
 SECTIONS = {
@@ -39,40 +39,63 @@ SECTIONS = {
 VARIABLES = {
     "": {"bytes_len": "len"},
     "UnbufferedDecoder::end": {"len": "buffer_size", "ended": "before"},
-    "UnbufferedDecoder::feed_each": {"dest": "buffer", "here": "state"},
-    "UnbufferedDecoder::step": {"dest": "buffer"},
-    "UnbufferedDecoder::take_byte": {"dest": "buffer", "room": "buffer_size"},
-    "UnbufferedEncoder::append_byte": {"dest": "buffer"},
-    "UnbufferedEncoder::append_each": {"dest": "buffer"},
-    "UnbufferedEncoder::feed_len": {"dest": "buffer"},
-    "UnbufferedEncoder::finalize": {"dest": "buffer", "len": "length"},
-    "UnbufferedEncoder::is_within": {"len": "buffer_size"},
-    "UnbufferedEncoder::push_each": {"dest": "buffer"},
-    "close_block": {"dest": "buffer"},
-    "decode_blocks_each": {"end": "frame_len"},
-    "decode_zero": {"found": "piece"},
-    "decode_each": {"found": "piece"},
-    "decode_piece": {"dest": "message", "left": "missing"},
-    "encode_in_place": {"len": "message_len", "before": "start"},
-    "ended": {"at": "consumed"},
-    "finish_terminated": {"last": "room"},
-    "has_room": {"held": "block_len", "len": "data_len"},
-    "held": {"room": "buffer_size"},
-    "jcobs_decode_in_place": {"end": "frame_len", "size": "decoded"},
-    "jcobs_encode_terminated": {"last": "room"},
+    "UnbufferedDecoder::take_steps": {"here": "state"},
+    "UnbufferedDecoder::take_blocks": {"here": "state"},
+    "UnbufferedDecoder::take_part": {"len'": "taken"},
+    "UnbufferedEncoder::finalize": {"len": "length"},
+    "UnbufferedEncoder::has_room": {"len": "buffer_size"},
+    "decode_first": {"progress": "decoder"},
+    "decode_blocks": {"progress": "decoder"},
+    "decode_blocks_in_place": {"progress": "decoder"},
+    "encode_in_place": {"len": "message_len"},
+    "jcobs_decode_in_place": {"end": "frame_len"},
+    "jcobs_decoder_feed": {"found": "end"},
+    "jcobs_decoder_push": {"found": "end"},
+    "jcobs_decoder_push_with_sentinel": {"found": "end"},
     "max_encoding_overhead": {"source_len": "message_len"},
-    "result_by": {"room": "buffer_len", "size": "decoded"},
-    "result_of": {"room": "buffer_size", "found": "piece"},
-    "try_encode_each": {"source": "message", "dest": "frame"},
-    "write_each": {"source": "message", "dest": "frame", "len": "part_len"},
+    "result_of": {"room": "buffer_size", "found": "end"},
 }
-# Functions that are called only once, but stay separate functions: if they were inlined, the step would be a tenth slower on
-# an AVR.
-APART = {"encode_byte", "decode_zero"}
-# Functions that handle a byte that occurs once in a piece. A function that takes each byte calls them (JCOBS_RARE in top.c).
-RARE = {"decode_zero"}
+# Functions that aren't inlined, because that takes more flash.
+APART = {"max_encoding_overhead"}
+# Functions that are inlined only with JCOBS_FAST (JCOBS_ONCE in top.c): without it, one copy of each is smaller.
+ONE_COPY = {
+    "UnbufferedDecoder::feed_piece_with_sentinel", "UnbufferedDecoder::take_steps", "UnbufferedEncoder::append",
+    "decode_first", "encode", "position_or_len", "try_encode",
+}
 # Functions whose calls are replaced by the value that the function returns.
-WRITTEN_OUT = {"UnbufferedDecoder::is_idle"}
+WRITTEN_OUT = {"UnbufferedDecoder::is_at_code", "UnbufferedDecoder::is_idle", "copy_slice", "move_back"}
+# Functions of cobs_c that do what a function of cobs does, which isn't public.
+SAME = {"first_sentinel": "position_or_len"}
+# Methods that return a number of an end.
+ACCESSORS = {"frame_size": "count", "parsed_size": "consumed"}
+# For each function that returns several values, a struct for these values: its name, and the names of the values.
+SEVERAL = {
+    "kept_len": ("kept", ["len", "is_whole"]),
+    "write_zeros_at_codes": ("last_block", ["code", "missing"]),
+}
+# The constant that is the greatest number of bytes that are encoded or decoded one by one.
+THRESHOLD = "SHORT"
+# Functions that return the length of a frame, which is never 0, or an error. In C they return a length, and 0 for the error.
+NEVER_EMPTY = {"try_encode", "try_encode_with_sentinel"}
+# Functions for the methods of numbers: each is written if it is called.
+METHODS = {
+    "min": "static JCOBS_INLINE size_t jcobs_min(size_t a, size_t b)\n{\n    return a < b ? a : b;\n}",
+    "max": "static JCOBS_INLINE size_t jcobs_max(size_t a, size_t b)\n{\n    return a > b ? a : b;\n}",
+    "saturating_sub": """/* Returns a - b, or 0 if b is greater than a. */
+static JCOBS_INLINE size_t jcobs_saturating_sub(size_t a, size_t b)
+{
+    return a > b ? a - b : 0;
+}""",
+    "sum_or_zero": """/* Returns the sum of a and b, or 0 if the sum doesn't fit a size_t. */
+static size_t jcobs_sum_or_zero(size_t a, size_t b)
+{
+    return b > (size_t)-1 - a ? 0 : a + b;
+}""",
+}
+# Calls of jcobs.h that are written by hand.
+BY_HAND = ["jcobs_strerror", "jcobs_version", "jcobs_abi_1"]
+# Comments of constants.
+CONSTANTS = {"SHORT": "up to this many bytes are searched, encoded and decoded one by one"}
 # Numbers that have a name.
 NUMBERS = {"254": "FULL_BLOCK_BYTES"}
 # For each way in which a piece or a frame can end, the variants of Rattle that stand for it.
@@ -91,78 +114,30 @@ COMMENTS = {
         "and returns the result for this zero. `len` is the buffer's length.",
         "and returns how the piece ended. The buffer has buffer_size bytes.",
     )],
-    "UnbufferedDecoder::feed_each": [(
-        " For the sentinel 0, the effect and the result are those of [`feed_piece`](Self::feed_piece). The function doesn't search"
-        " ahead or copy slices, so its code is small, and it is fast for a few bytes.",
-        "",
-    ), (
-        "The fields are assigned one by one. If the whole decoder is assigned, a push needs 24 bytes more flash on a"
-        " Cortex-M4, compiled by rustc.",
+    "UnbufferedDecoder::feed_piece_with_sentinel": [(
+        " The results are those of [`feed_piece`](Self::feed_piece), with this sentinel in place of 0.",
         "",
     )],
-    "UnbufferedDecoder::step": [(
-        ", and writes the output of this byte to the buffer.",
-        ", and writes the output of this byte to the buffer. It returns JCOBS_END_TOO_LONG at each byte of a piece that is too long.",
+    "UnbufferedDecoder::feed": [(
+        ", with `dest` as the buffer. The results and errors are those of [`CobsDecoder::feed`](crate::CobsDecoder::feed). As long as the"
+        " output of the piece fits the buffer, the byte changes the decoder's state in the same way as it would change a"
+        " [`DecoderState`](crate::DecoderState).",
+        ", and writes the output of this byte to `dest`. It returns JCOBS_END_TOO_LONG at each byte of a piece that is too long.",
     )],
-    "UnbufferedEncoder::append_each": [(", one byte at a time.", ", one byte at a time. There is at least one byte.")],
-    "UnbufferedEncoder::feed_len": [(
-        "if the frame of the message up to and including this byte fits the buffer.",
-        "if the frame of the message up to and including this byte fits the buffer. If this function were a part of jcobs_encoder_feed, the code of"
-        " avr-gcc would take a tenth more time.",
+    "UnbufferedDecoder::take_part_in_place": [("`take_part` in `run.rt`", "`UnbufferedDecoder::take_part`")],
+    "UnbufferedDecoder::take_run": [(
+        "If the piece is too long, `feed` returns an error for each of the next bytes of the piece, and `push` must stop at the"
+        " first of these bytes. So no byte is decoded here.",
+        "",
     )],
     "UnbufferedEncoder::finalize": [(
         "Ends the message, and returns",
         "Ends the message, if the state is possible in a buffer of this size, and returns",
     )],
-    "UnbufferedEncoder::is_within": [("the encoder's state is possible in a buffer of `len` bytes", "the state is possible in a buffer of this size")],
-    "UnbufferedEncoder::push_each": [(", one byte at a time.", ", if the frame of all bytes so far fits the buffer, and returns whether it does.")],
-    "decode_blocks_each": [(
-        " The code of this function is small, and uses no SIMD vectors.",
-        " No byte of the frame is a zero. If the last block is cut off, it returns JCOBS_END_BROKEN, with the length of the output"
-        " of the blocks before it.",
-    )],
-    "decode_each": [(", `consumed` is at most the number of bytes, and `length` is at most the buffer's length.", ".")],
-    "decode_piece": [("Returns `None` if the source has no piece.", "It returns JCOBS_END_NONE if there is no piece.")],
-    "encode_each": [(", `consumed` is at most the number of bytes, and `length` is at most the buffer's length.", ".")],
-    "encode_in_place": [(
-        "in the buffer that holds it, and returns the length of the frame in bytes.",
-        "in the buffer that holds it. The message begins at index JCOBS_MAX_OVERHEAD(message_len). Returns the length of the"
-        " frame in bytes.",
-    )],
-    "end_of": [("the frame that an encoder has written so far", "the frame of all bytes that were taken")],
-    "ended": [("`decode_piece`", "jcobs_decode_piece")],
-    "has_room": [(
-        "The function reads `bytes` only if their number doesn't decide whether the frame fits.",
-        "The function reads `bytes` only if their number doesn't decide whether the frame fits. data_len is the number of bytes of the message in"
-        " the open block and the blocks after it, including these bytes.",
-    )],
+    "jcobs_decoder_feed": [("`feed` returns an error for other bytes too", "jcobs_decoder_step returns an end for other bytes too")],
     "jcobs_decoder_reset": [("Makes the decoder idle, even if its state is corrupt.", "Resets the decoder to the initial state, from any state.")],
     "jcobs_encoder_reset": [(
         "Resets the encoder to the start of a message, even if its state is corrupt.",
         "Resets the encoder to the initial state, from any state.",
-    )],
-    "kind_by_blocks": [(
-        ", as [`frame_kind`] does. This function reads only the code of each block, and doesn't search the other bytes for a zero.",
-        ". None of the bytes may be a zero. The function reads only the code of each block.",
-    )],
-    "leading_zeros": [(" [`decode`](crate::decode) skips these zeros before a frame.", "")],
-    "len_to_zero": [(
-        "or the length of `bytes` if there is no zero. The function is small, because it uses no SIMD vectors.",
-        "or the number of all bytes if there is no zero. The loop tests four bytes in each round. A loop that tests one byte in"
-        " each round would need twice as many instructions.",
-    )],
-    "result_by": [(
-        "a call that consumed `consumed` bytes and decoded them into a buffer of `room` bytes. `size` is the length of the message,"
-        " or the decoder's error.",
-        "a call that decodes in place, and consumed `consumed` bytes of the `room` bytes of a buffer. `size` says how the frame"
-        " ended."
-        " JCOBS_END_TOO_LONG and JCOBS_END_NONE don't occur: a message is shorter than its frame, and an empty buffer isn't"
-        " decoded.",
-    )],
-    "write_each": [(
-        "Encodes a message as [`encode`](crate::encode) does, but one byte at a time.",
-        "Writes the frame of the message, and returns its length. The code of the open block belongs at `index`, and the next byte at"
-        " `next`. No part has more bytes than the open block has room for, so the function doesn't test at each byte whether the block is"
-        " full.",
     )],
 }

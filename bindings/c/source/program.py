@@ -5,7 +5,7 @@ import re
 import rattle
 from rattle import Unknown
 
-CRATES = ["cobs_small", "cobs_abi", "cobs"]
+CRATES = ["cobs_c", "cobs_abi", "cobs"]
 
 
 class Program:
@@ -34,6 +34,8 @@ class Program:
     def find(self, name, path, crate):
         """Returns the item that a name means in this file of this crate."""
         names, uses = self.files[path]
+        if name.partition("::")[0] in CRATES and "::" in name:
+            name = name.split("::", 1)[1]
         if name in names:
             return names[name]
         first = name.split("::")[0]

@@ -29,13 +29,12 @@ class Syntax(Tokens):
         if self.take("while"):
             condition = self.expression(False)
             return ("while", condition, self.block())
-        if self.take("loop"):
-            return ("loop", self.block())
         if self.take("for"):
+            is_value = self.take("&")  # `for &byte in bytes`, and not `for byte in bytes`
             name = self.next()
             self.want("in")
             over = self.expression(False)
-            return ("for", name, over, self.block())
+            return ("for", name, over, self.block(), is_value)
         if self.take("return"):
             value = None if self.peek() in (";", "}", ",") else self.expression()
             self.take(";")
@@ -206,14 +205,15 @@ class Syntax(Tokens):
             return ("call", name, self.arguments())
         if struct and self.peek() == "{" and name.split("::")[-1][0].isupper():
             self.want("{")
-            fields = []
+            fields, rest = [], None
             while not self.take("}"):
                 if self.take(".."):
-                    self.fail("a struct's rest")
+                    rest = self.expression()
+                    continue
                 field = self.next()
                 fields.append((field, self.expression() if self.take(":") else ("path", field)))
                 self.take(",")
-            return ("struct", name, fields)
+            return ("struct", name, fields, rest)
         return ("path", name)
 
     def condition(self):

@@ -1,29 +1,36 @@
-/* jcobs.c: the calls of jcobs.h in one file of C, for any processor and compiler. Written by translate.py: don't edit.
+/* jcobs.c: the calls of jcobs.h in one file of C, for any processor. Written by translate.py: don't edit.
  *
  * SPDX-License-Identifier: MIT OR Apache-2.0
  *
  * Compile this file with your program, as C99 or later or as C++, with jcobs.h in the same folder or in the include
- * path. The file has no static variables, except a constant table with the texts of jcobs_strerror. It allocates no
- * memory, and calls no function of a C library. A compiler may turn some lines of the file into calls of memset or
- * memcpy.
+ * path. The C compiler must be able to return structs. The file has no static variables, except a constant table with
+ * the texts of jcobs_strerror, and allocates no memory.
  *
- * What is proved: each function of crates/cobs_small meets its contract, accesses only the buffers that are passed to
+ * JCOBS_FAST is the one choice. With -DJCOBS_FAST, more bytes than JCOBS_SHORT are searched by memchr, and copied by memcpy
+ * and memmove. That is many times as fast if zeros are rare, and takes more flash. Without JCOBS_FAST all bytes are
+ * encoded and decoded one by one, and the file calls no function of a C library. (A compiler may turn some lines of the
+ * file into calls of memset, memcpy or memmove.) The results are the same. The build files for hosts define JCOBS_FAST;
+ * those for devices don't.
+ *
+ * What is proved: each function of crates/cobs_c meets its contract, accesses only the buffers that are passed to
  * it, and returns. The proofs are for lengths of 64 bits and for any contents of the buffers and states. The comment
- * above a call summarizes its contract, and names the file of crates/cobs_small/src that has the contract. The words of
- * the contracts are defined in crates/cobs_abi/specs and crates/cobs/specs.
+ * above a call summarizes its contract, and names the file of crates/cobs_c/src that has the contract. The words of
+ * the contracts are defined in crates/cobs_c/specs and crates/cobs/specs. The proofs hold for any value of JCOBS_SHORT.
  *
  * What is tested, not proved: this file does what the functions in Rattle do. translate.py translated each function from
  * Rattle, and your compiler compiles it. Lengths have the width of your size_t. bindings/c/tests/translated.py, which
- * shares no code with translate.py, compares this file with the functions in Rattle: their conditions, loops, operators,
- * numbers, calls and uses of names. bindings/c/tests/run.sh compares two million calls of this file with calls of the
- * proved module itself. run.sh and tests/device.sh run this file on processors of both byte orders, whose size_t has 16,
- * 32 or 64 bits. They run the cases of conformance/, unless size_t has 16 bits. They also make random calls with states
- * of random bytes, and compare the results with those of plain C. The functions from jcobs_xor to the end of this file
+ * shares no code with translate.py, runs the functions in Rattle, and compares the results with those of this file.
+ * bindings/c/tests/run.sh and tests/device.sh run this file on processors of both byte orders, whose size_t has 16, 32 or
+ * 64 bits. They run the cases of conformance/, unless size_t has 16 bits. They also make random calls with states of
+ * random bytes, and compare the results with those of plain C. The functions from jcobs_strerror to the end of this file
  * are written by hand, and tested in the same way.
  */
 #include "jcobs.h"
 
 #include <limits.h>
+#ifdef JCOBS_FAST
+#include <string.h>
+#endif
 
 /* These two types don't compile on a processor that this file doesn't support. The first doesn't compile if bytes have
  * more than 8 bits, and the second doesn't compile if size_t is shorter than unsigned int. */
@@ -35,22 +42,22 @@ typedef char jcobs_size_t_is_no_shorter_than_int[sizeof(size_t) >= sizeof(unsign
  * - JCOBS_INLINE: always inlined, because a loop over bytes calls the function, or because it only makes a struct.
  * - JCOBS_APART: not inlined, so that the loop of the function can use all registers of a small processor. On x86-64 the
  *   function may be inlined: this processor has more registers, and a call takes as much time as several bytes.
- * - JCOBS_RARE: for a function that handles a byte that occurs once in a piece. The function is inlined into the call
- *   that handles each byte. On x86-64 it isn't inlined: otherwise gcc would compile a single return, to which the code
- *   for most bytes would have to jump, and a call would take a fifth more time. */
+ * - JCOBS_ONCE: inlined with JCOBS_FAST. Without it, one copy of the function serves all calls. */
 #ifdef __GNUC__
 #define JCOBS_INLINE __inline__ __attribute__((always_inline))
 #ifdef __x86_64__
 #define JCOBS_APART __inline__
-#define JCOBS_RARE __attribute__((noinline))
 #else
 #define JCOBS_APART __attribute__((noinline))
-#define JCOBS_RARE JCOBS_INLINE
 #endif
 #else
 #define JCOBS_INLINE inline
 #define JCOBS_APART
-#define JCOBS_RARE
+#endif
+#ifdef JCOBS_FAST
+#define JCOBS_ONCE JCOBS_INLINE
+#else
+#define JCOBS_ONCE
 #endif
 
 /* A frame is a sequence of blocks. A block is a code, from 1 to 255, followed by code - 1 bytes, none of which is 0. A
@@ -83,33 +90,18 @@ enum jcobs_end_kind {
 
 typedef struct jcobs_end {
     enum jcobs_end_kind kind;
-    size_t count; /* the length of a message, or of the output of a broken piece */
+    size_t count;    /* the length of a message, or of the output of a broken piece */
+    size_t consumed; /* how many bytes were consumed, if the function says so */
 } jcobs_end;
 
-static JCOBS_INLINE jcobs_end jcobs_make_end(enum jcobs_end_kind kind, size_t count)
+static JCOBS_INLINE jcobs_end jcobs_make_end(enum jcobs_end_kind kind, size_t count, size_t consumed)
 {
     jcobs_end end;
 
     end.kind = kind;
     end.count = count;
+    end.consumed = consumed;
     return end;
-}
-
-/* A jcobs_end with the number of bytes that were consumed. */
-typedef struct jcobs_piece {
-    enum jcobs_end_kind kind;
-    size_t count;
-    size_t consumed;
-} jcobs_piece;
-
-static JCOBS_INLINE jcobs_piece jcobs_make_piece(enum jcobs_end_kind kind, size_t count, size_t consumed)
-{
-    jcobs_piece piece;
-
-    piece.kind = kind;
-    piece.count = count;
-    piece.consumed = consumed;
-    return piece;
 }
 
 /* Whether an encoder's frame fits the buffer, and the frame's length if it fits. */
@@ -135,15 +127,4 @@ static JCOBS_INLINE jcobs_answer jcobs_make_answer(JCOBS_STATUS status, size_t c
     answer.consumed = consumed;
     answer.length = length;
     return answer;
-}
-
-static JCOBS_INLINE size_t jcobs_min(size_t a, size_t b)
-{
-    return a < b ? a : b;
-}
-
-/* Returns the sum of a and b, or 0 if the sum doesn't fit a size_t. */
-static size_t jcobs_sum_or_zero(size_t a, size_t b)
-{
-    return b > (size_t)-1 - a ? 0 : a + b;
 }

@@ -25,7 +25,7 @@ crash_names_caller() {
     crashing >"$work/crash.c" <<'END'
 encode jcobs_encode(nowhere, 900, buffer, 1000).status
 terminated jcobs_encode_terminated(nowhere, 900, buffer, 1000).status
-in_place jcobs_encode_in_place(nowhere, 1000, 900).status
+in_place jcobs_encode_in_place(nowhere, 1000, 4, 900).status
 decode jcobs_decode(nowhere, 900, buffer, 1000).status
 decode_in_place jcobs_decode_in_place(nowhere, 900).status
 push jcobs_decoder_push(&decoder, buffer, 1000, nowhere, 900).status

@@ -66,11 +66,11 @@ END
 }
 
 
-# Builds a project that has this repository as a folder.
+# Builds a project that has this repository as a folder, and whose own C is C90.
 added() {
     repository=$(repository) || return 1
     rm -rf "$work/adding" && mkdir -p "$work/adding" && cp examples/messages.cpp "$work/adding" || return 1
-    printf 'cmake_minimum_required(VERSION 3.16)\nproject(adding LANGUAGES C CXX)\nset(CMAKE_CXX_STANDARD 17)\nadd_subdirectory(%s jcobs)\nadd_executable(messages messages.cpp)\ntarget_link_libraries(messages jcobs::jcobs)\n' \
+    printf 'cmake_minimum_required(VERSION 3.16)\nproject(adding LANGUAGES C CXX)\nset(CMAKE_C_STANDARD 90)\nset(CMAKE_CXX_STANDARD 17)\nadd_subdirectory(%s jcobs)\nadd_executable(messages messages.cpp)\ntarget_link_libraries(messages jcobs::jcobs)\n' \
         "$repository" >"$work/adding/CMakeLists.txt"
     for flag in -DJCOBS_FROM_SOURCE=OFF -DJCOBS_FROM_SOURCE=ON; do
         rm -rf "$work/adding/build"

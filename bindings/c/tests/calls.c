@@ -123,15 +123,25 @@ static void test_encode_in_place(void)
             memset(frame, 0xaa, sizeof frame);
             memcpy(frame + overhead, message, length);
             memcpy(bytes, frame, sizeof bytes);
-            answer = jcobs_encode_in_place(bytes, room - 1, length);
+            answer = jcobs_encode_in_place(bytes, room - 1, overhead, length);
             expect(is_answer(answer, JCOBS_TOO_SMALL, 0, 0) && memcmp(bytes, frame, sizeof bytes) == 0, "too short");
+            answer = jcobs_encode_in_place(bytes, room, overhead - 1, length);
+            expect(is_answer(answer, JCOBS_TOO_SMALL, 0, 0) && memcmp(bytes, frame, sizeof bytes) == 0, "too near");
             answer = jcobs_encode(message, length, frame, room);
-            expect(is_answer(jcobs_encode_in_place(bytes, room, length), JCOBS_OK, length, answer.length), "in place");
+            expect(is_answer(jcobs_encode_in_place(bytes, room, overhead, length), JCOBS_OK, length, answer.length),
+                   "in place");
             expect(memcmp(bytes, frame, sizeof bytes) == 0, "the frame, and what was behind it");
+            memcpy(bytes + overhead + 3, message, length);
+            expect(is_answer(jcobs_encode_in_place(bytes, room + 3, overhead + 3, length), JCOBS_OK, length,
+                             answer.length) &&
+                       memcmp(bytes, frame, answer.length) == 0,
+                   "a later start");
         }
-    expect(is_answer(jcobs_encode_in_place(NULL, 0, 0), JCOBS_TOO_SMALL, 0, 0), "no room for the empty message");
-    expect(is_answer(jcobs_encode_in_place(message, sizeof message, (size_t)-1), JCOBS_TOO_SMALL, 0, 0),
+    expect(is_answer(jcobs_encode_in_place(NULL, 0, 0, 0), JCOBS_TOO_SMALL, 0, 0), "no room for the empty message");
+    expect(is_answer(jcobs_encode_in_place(message, sizeof message, 1, (size_t)-1), JCOBS_TOO_SMALL, 0, 0),
            "no such length");
+    expect(is_answer(jcobs_encode_in_place(message, sizeof message, (size_t)-1, 2), JCOBS_TOO_SMALL, 0, 0),
+           "no such start");
 }
 
 /* A message in pieces, ended by each of the four calls, has the frame of the whole message. Feeding a byte does what a

@@ -28,6 +28,7 @@ static_assert(!is_written<std::string_view> && !is_written<const std::array<std:
 static_assert(!is_written<jcobs::view> && !is_written<char (&)[6]>);
 static_assert(jcobs::max_length(0) == 1 && jcobs::max_length(254) == 255 && jcobs::max_length(255) == 257);
 static_assert(jcobs::max_length(static_cast<std::size_t>(-1)) == 0);
+static_assert(jcobs::max_overhead(0) == 1 && jcobs::max_overhead(254) == 1 && jcobs::max_overhead(509) == 3);
 static_assert(jcobs::max_length(static_cast<std::size_t>(-1) / 255 * 254) == static_cast<std::size_t>(-1));
 static_assert(jcobs::max_length(static_cast<std::size_t>(-1) / 255 * 254 + 1) == 0);
 static_assert(!std::is_copy_constructible_v<jcobs::receiver> && !std::is_copy_constructible_v<jcobs::sender>);
@@ -78,15 +79,25 @@ static void test_calls()
     expect(jcobs::encode("a\0b"sv, room).length == 4 && equal({room.data(), 4}, "\2a\2b"sv), "encode");
     expect(jcobs::decode({room.data(), 4}, message).length == 3 && equal({message.data(), 3}, "a\0b"sv), "decode");
     std::memcpy(room.data() + jcobs::max_overhead(3), "a\0b", 3);
-    expect(jcobs::encode_in_place(room, 3).length == 4 && equal({room.data(), 4}, "\2a\2b"sv), "encode in place");
+    expect(jcobs::encode_in_place(room, jcobs::max_overhead(3), 3).length == 4 && equal({room.data(), 4}, "\2a\2b"sv),
+           "encode in place");
     expect(jcobs::encode_terminated("hi"sv, room, 7).length == 4 && room[3] == std::byte{7}, "for a sentinel");
     expect(jcobs::decode_with_sentinel({room.data(), 4}, message, 7).consumed == 4, "decode for a sentinel");
     expect(jcobs::decode("\0\2\7\0"sv, message).consumed == 4, "decode skips zeros");
     expect(jcobs::decode_with_sentinel("\0\2\7\0"sv, message, 0).consumed == 1, "and this doesn't");
     expect(jcobs::decode_in_place({room.data(), 4}, 7).length == 2 && equal({room.data(), 2}, "hi"sv), "in place");
+    expect(jcobs::encode("hi"sv, room, 7).length == 3 && equal({room.data(), 3}, "\4on"sv), "encode for a sentinel");
+    expect(jcobs::encode("hi"sv, room).length == 3 && jcobs::decode_in_place({room.data(), 3}).length == 2 &&
+               equal({room.data(), 2}, "hi"sv),
+           "in place, for 0");
     expect(jcobs::encode("hi"sv, none).status == JCOBS_TOO_SMALL, "no room");
     expect(jcobs::decode(none, message).status == JCOBS_EMPTY, "no bytes");
     expect(jcobs::frame_kind("\3hi"sv) == JCOBS_CANONICAL, "kind");
+    expect(jcobs::frame_kind("\3h"sv) == JCOBS_NOT_A_FRAME, "kind of a broken frame");
+    std::array<unsigned char, 256> longer;
+    longer.fill(255);
+    longer[255] = 1;
+    expect(jcobs::frame_kind(longer) == JCOBS_LONGER, "kind of a longer frame");
 }
 
 static void test_streams()
@@ -103,6 +114,7 @@ static void test_streams()
     expect(sender.feed('a') && sender.push("bcdef"sv) && sender.finish_terminated().size() == 8, "with a terminator");
     expect(sender.push("abcdefg"sv) && sender.finish_terminated().empty(), "no room for the terminator");
     expect(sender.finish(7).size() == 8 && frame[0] == std::byte{8 ^ 7}, "for a sentinel");
+    expect(sender.push("abcdefg"sv) && !sender.feed('h'), "no room for another byte");
     sender.reset();
     expect(equal(sender.finish(), "\1"sv), "the empty message");
     const auto on_message = [&](jcobs::view message) {
@@ -113,6 +125,8 @@ static void test_streams()
     expect(!receiver.is_idle(), "a frame is open");
     receiver.push("ey\0\7toolong\0\5a\0\4hey\0\2"sv, on_message, [&](jcobs_answer) { errors++; });
     expect(met == 2 && errors == 2, "what is received");
+    receiver.push({}, on_message);
+    expect(receiver.consumed() == 0, "an empty push");
     receiver.reset();
     expect(receiver.is_idle(), "reset");
     for (const char byte : "\4he"sv)
@@ -148,16 +162,23 @@ static void test_moves()
     expect(first.is_idle() && first.consumed() == 0 && second.consumed() == 2, "a receiver is moved");
     second.push("b~\7"sv, on_message);
     first.push("\3ob~\7"sv, on_message, on_error);
-    first = std::move(second);
-    first.push("\3ob~\7"sv, on_message);
-    expect(met == 12, "what moved receivers receive");
+    unsigned char others[4];
+    jcobs::receiver third(others);
+    second.push("\3o"sv, on_message);
+    third = std::move(second);
+    expect(second.is_idle() && second.consumed() == 0 && third.consumed() == 2, "a receiver is assigned");
+    third.push("b~\7"sv, on_message);
+    second.push("\3ob~\7"sv, on_message, on_error);
+    expect(met == 22, "what moved receivers receive");
 
     expect(begun.push("he"sv), "push");
     jcobs::sender sender(std::move(begun));
     expect(!begun.push("he"sv) && begun.finish().empty(), "a sender without a buffer");
     expect(sender.push("y"sv) && equal(sender.finish(), "\4hey"sv), "finish after a move");
+    expect(sender.push("h"sv), "push after a move");
     begun = std::move(sender);
-    expect(begun.push("hey"sv) && equal(begun.finish_terminated(7), "\3ob~\7"sv), "moved back");
+    expect(!sender.push("ey"sv) && sender.finish().empty(), "a sender that was assigned");
+    expect(begun.push("ey"sv) && equal(begun.finish_terminated(7), "\3ob~\7"sv), "moved back");
 }
 
 int main()

@@ -242,7 +242,7 @@ int main(int argc, char **argv)
             break;
         case 12:
             taken = some_length();
-            answer = jcobs_encode_in_place(out.data, out.len, taken);
+            answer = jcobs_encode_in_place(out.data, out.len, some_length(), taken);
             break;
         default:
             if (garbage)

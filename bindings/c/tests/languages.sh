@@ -128,19 +128,10 @@ END
     ! compiles_cpp clang++ 'jcobs::view v = text(); (void)v;' -Wall -Wextra -Werror && grep -q 'Wdangling' "$work/said.compiler"
 }
 
-# Compiles the proved module with the toolchain's own clang, and links it with jcobs.c in one program.
-beside_module() {
-    kit=$(dirname "$(dirname "$(readlink -f "$(command -v rt)")")")
-    sed 's/@jcobs_/@module_jcobs_/g' source/cobs_small.ll >"$work/module.ll"
-    "$kit/toolchain/bin/clang" --no-default-config --target=x86_64-unknown-linux-gnu -Wno-override-module -O1 -fPIC -c -x ir "$work/module.ll" \
-        -o "$work/module.o" &&
-        "${CC:-cc}" -std=c99 -O2 $flags -Iinclude tests/module.c source/jcobs.c "$work/module.o" -o "$work/module" && "$work/module"
-}
-
 # Runs translate.py on a crate with this body of jcobs_max_length. translate.py only reports, and writes no file.
 translated() { # BODY
-    mkdir -p "$work/crates/cobs_small/src"
-    cat >"$work/crates/cobs_small/src/lib.rt" <<END
+    mkdir -p "$work/crates/cobs_c/src"
+    cat >"$work/crates/cobs_c/src/lib.rt" <<END
 /// Returns a number.
 #[unsafe(no_mangle)]
 pub extern "C" fn jcobs_max_length(message_len: usize) -> usize

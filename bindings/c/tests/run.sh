@@ -202,7 +202,6 @@ over_musl() {
 }
 
 sums() (
-    cmp include/jcobs.h device/src/jcobs.h && cmp include/jcobs.hpp device/src/jcobs.hpp || return 1
     cd prebuilt && sha256sum -c SHA256SUMS
 )
 
@@ -217,8 +216,8 @@ manual() (
 )
 
 # Compiles only jcobs.c, with each compiler and in each language that it supports.
-source_compiles() {
-    strict='-Wall -Wextra -Wpedantic -Wconversion -Wsign-conversion -Wshadow -Wcast-qual -Wstrict-prototypes -Werror'
+source_compiles() { # FLAG..
+    strict="-Wall -Wextra -Wpedantic -Wconversion -Wsign-conversion -Wshadow -Wcast-qual -Wswitch-enum $* -Wstrict-prototypes -Werror"
     for compiler in gcc clang; do
         command -v $compiler >/dev/null || continue
         for standard in c99 c11 c17 c2x gnu99; do
@@ -231,9 +230,9 @@ source_compiles() {
             $compiler -std=$standard -O2 ${strict% -Wstrict-prototypes*} -Werror -Iinclude -x c++ -c source/jcobs.c -o "$work/source.o" || return 1
         done
     done
-    # jcobs.c calls no function of another file, and has no variables.
-    gcc -std=c99 -O2 -fno-tree-loop-distribute-patterns -Iinclude -c source/jcobs.c -o "$work/source.o" &&
-        ! nm "$work/source.o" | grep -v ' [TtrR] '
+    # jcobs.c has no variables. Without JCOBS_FAST it calls no function of another file, even if it isn't optimized.
+    gcc -std=c99 -O0 "$@" -Iinclude -c source/jcobs.c -o "$work/source.o" &&
+        ! nm "$work/source.o" | grep -v ' [TtrR] ' | grep -v "${1:+ U mem\(chr\|cpy\|move\)$}"
 }
 
 # Runs cppcheck with the mandatory rules of MISRA C.
@@ -249,15 +248,22 @@ source_checked() {
 source_builds() { # COMPILER FLAG..
     for test in tests/vectors.c tests/calls.c tests/guard.c 'device/tests/random.c device/tests/plain.c'; do
         built=${test##*tests/}
-        "$@" -std=c99 $flags -DWITH_SENTINELS -Iinclude -Idevice/tests source/jcobs.c $test -o "$work/source.${built%.c}" || return 1
+        "$@" -std=c99 $flags -Iinclude -Idevice/tests source/jcobs.c $test -o "$work/source.${built%.c}" || return 1
     done
 }
 
-source_tests() { # PROCESSOR CALLS
-    part "jcobs.c on $1: vectors" $run "$work/source.vectors" ../../conformance/*.txt
-    part "jcobs.c on $1: constants, texts, NULL, loops" $run "$work/source.calls"
-    part "jcobs.c on $1: $2 random calls between pages without access" $run "$work/source.guard" "$2"
-    part "jcobs.c on $1: $2 random calls beside plain C" $run "$work/source.plain" "$2"
+# Builds and runs these tests, without and with JCOBS_FAST.
+source_tests() { # PROCESSOR CALLS COMPILER FLAG..
+    on=$1
+    calls=$2
+    shift 2
+    for fast in '' -DJCOBS_FAST; do
+        part "jcobs.c on $on $fast: build" source_builds "$@" $fast || continue
+        part "jcobs.c on $on $fast: vectors" $run "$work/source.vectors" ../../conformance/*.txt
+        part "jcobs.c on $on $fast: constants, texts, NULL, loops" $run "$work/source.calls"
+        part "jcobs.c on $on $fast: $calls random calls between pages without access" $run "$work/source.guard" "$calls"
+        part "jcobs.c on $on $fast: $calls random calls beside plain C" $run "$work/source.plain" "$calls"
+    done
 }
 
 # Builds the library with make for a processor that has no library in prebuilt/, and links it statically and dynamically.
@@ -269,7 +275,7 @@ made_of_source() { # ARCH: its program is run by $run
 source_on() { # PROCESSOR PREFIX PACKAGE CALLS
     if has "$2-gcc" "gcc-$2" "jcobs.c on $1" && links "$2-gcc" "$3" "jcobs.c on $1" && has "qemu-${1%% *}" qemu-user "jcobs.c on $1"; then
         run="qemu-${1%% *} -L /usr/$2"
-        part "jcobs.c on $1: build" source_builds "$2-gcc" -O2 && source_tests "$1" "$4"
+        source_tests "$1" "$4" "$2-gcc" -O2
         [ "${1%% *}" != s390x ] || part "make for $1, which has no built library" made_of_source s390x
         run=
     fi
@@ -368,9 +374,6 @@ if has meson meson Meson && has pkg-config pkg-config Meson; then
     part 'Meson: jcobs.c, shared' by_meson shared libjcobs.so.1 -Dfrom_source=true
     part 'Meson: a subproject' meson_subproject
 fi
-if has cmake cmake 'recipes for vcpkg and Conan'; then
-    part 'recipes for vcpkg and Conan' python3 tests/recipes.py
-fi
 if has musl-gcc musl-tools 'over musl'; then
     part 'over musl' over_musl
 fi
@@ -384,21 +387,14 @@ fi
 if has python3 python3 'jcobs.c is made of the crates'; then
     part 'jcobs.c is what translate.py makes of the crates' python3 -B source/translate.py --check
     part 'translate.py refuses what it does not know' translator_refuses
-fi
-if [ "$machine" = x86_64 ] && command -v rt >/dev/null; then
-    part 'jcobs.c beside the proved module' beside_module
-else
-    skip 'jcobs.c beside the proved module' "needs Rattle's toolchain, whose clang reads cobs_small.ll, on x86-64"
+    part 'jcobs.c beside the Rattle functions, run statement by statement' python3 -B tests/translated.py
 fi
 part 'jcobs.c by gcc and clang, C99 to C23, C++98 to C++20' source_compiles
-if has python3 python3 'jcobs.c measured beside C by hand'; then
-    part 'jcobs.c measured beside C by hand, in one placement' python3 -B tests/speed.py --placements 1
-fi
+part 'jcobs.c with JCOBS_FAST by gcc and clang, C99 to C23, C++98 to C++20' source_compiles -DJCOBS_FAST
 if has cppcheck cppcheck 'jcobs.c by cppcheck'; then
     part 'jcobs.c by cppcheck, with the mandatory rules of MISRA C' source_checked
 fi
-part 'jcobs.c with sanitizers: build' source_builds "${CC:-cc}" -O1 -g -fsanitize=address,undefined -fno-sanitize-recover=all &&
-    source_tests "$machine with sanitizers" 100000
+source_tests "$machine with sanitizers" 100000 "${CC:-cc}" -O1 -g -fsanitize=address,undefined -fno-sanitize-recover=all
 source_on aarch64 aarch64-linux-gnu libc6-dev-arm64-cross 20000
 source_on 's390x (big-endian)' s390x-linux-gnu libc6-dev-s390x-cross 20000
 source_on 'ppc (32 bits, big-endian)' powerpc-linux-gnu libc6-dev-powerpc-cross 20000

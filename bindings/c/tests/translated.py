@@ -1,478 +1,778 @@
 #!/usr/bin/env python3
-"""Checks that the functions of jcobs.c do what the proved ones do, by code that shares nothing with translate.py.
+"""Checks that jcobs.c does what the proved functions do: tests/translated.py [CRATES [FILE [CALLS]]]
 
-usage: tests/translated.py [CRATES [FILE]]
+This script runs the Rattle functions of the calls of jcobs.h itself, statement by statement, and compares each call with the same call of
+the compiled jcobs.c: the result, the state and every byte of the buffers must be the same. It shares no code with translate.py. With
+JCOBS_FAST the threshold SHORT has its value, and without JCOBS_FAST it is greater than each length. The script also checks that no
+number of Rattle overflows, and that the calls reach each block of statements of the functions that they call, except those of UNREACHED.
 
-Each function of jcobs.c that isn't written by hand, and the function in Rattle that PAIRS names, are turned into lists of words in
-one form: conditions, loops, returns, operators, numbers, constants, calls with their arguments, members and variables, in their
-order. The lists are compared word by word. Variables may have other names, but two variables of a function can't share a name. All
-other differences that are permitted are listed below, each with its reason. Comments, types and casts aren't compared: the tests have
-to find errors in casts.
-
-It prints the differences. If there is one, the status is 1.
+It prints the first difference. If there is one, the status is 1.
 """
+
+import ctypes
+import os
+import random
 import re
+import subprocess
 import sys
+import tempfile
 from pathlib import Path
 
 C = Path(__file__).resolve().parent.parent
 CRATES = Path(sys.argv[1] if len(sys.argv) > 1 else C / "../../crates").resolve()
 SOURCE = Path(sys.argv[2] if len(sys.argv) > 2 else C / "source/jcobs.c")
-
-# The functions of jcobs.c, by their file in Rattle: the name in Rattle, if it isn't the name after jcobs_, and the type of a
-# method.
-PAIRS = {
-    "cobs_small/decode": "decode=jcobs_decode",
-    "cobs_small/encode": "max_length=jcobs_max_length encode=jcobs_encode encode_terminated=jcobs_encode_terminated",
-    "cobs_small/decoder": "decoder_reset=jcobs_decoder_reset",
-    "cobs_small/encoder": "encoder_reset=jcobs_encoder_reset encoder_feed=jcobs_encoder_feed",
-    "cobs_small/in_place": "decode_in_place=jcobs_decode_in_place",
-    "cobs_small/kind": "frame_kind=jcobs_frame_kind",
-    "cobs_abi/answer": "ok_answer=done too_small_answer=too_small in_place_answer=result_by",
-    "cobs_abi/decoding": """decoder_length=held decoder_answer=result_of decoder_push=decode_each decoder_feed=decode_byte
-        decoder_feed_zero=decode_zero""",
-    "cobs_abi/encoding": """encoder_length=end_of encoder_push=encode_each encoder_feed_byte=encode_byte encoder_finish=finish
-        encoder_finish_terminated=finish_terminated encode_in_place=encode_within""",
-    "cobs_abi/message": "write_frame",
-    "cobs/lib": "max_overhead=max_encoding_overhead",
-    "cobs/find": "leading_zeros length_to_zero=len_to_zero",
-    "cobs/dec/each": "decode_blocks=decode_blocks_each find_end=through_piece ended_piece=ended decode_piece",
-    "cobs/dec/kind": "kind_by_blocks",
-    "cobs/dec/step": "joint_after decoder_take_byte=take_byte decoder_end_piece=end decoder_step=step decoder_take_bytes=feed_each",
-    "cobs/dec/unbuffered": "decoder_is_idle=is_idle",
-    "cobs/enc/blocks": "close_block",
-    "cobs/enc/each": "write_blocks=write_each",
-    "cobs/enc/in_place": "write_in_place=encode_in_place",
-    "cobs/enc/room": "extra_codes_fit=fits_each covers_overhead has_room",
-    "cobs/enc/step": """encoder_append_byte=append_byte encoder_append_bytes=append_each
-        encoder_try_append=push_each""",
-    "cobs/enc/unbuffered": "encoder_is_valid=is_within",
-    "cobs/enc/push": "encoder_close=finalize",
-}
-# Functions that only pass their parameters on, or pass one in another form. In C the function that they call replaces them.
-# Each is compared with this text, so that a change is noticed.
-PASSED_ON = {
-    ("cobs_small/decoder", "jcobs_decoder_push"): "decode_each ( decoder , buffer , bytes , 0 )",
-    ("cobs_small/decoder", "jcobs_decoder_feed"): "decode_byte ( decoder , buffer , byte )",
-    ("cobs_small/decoder", "jcobs_decoder_is_idle"): "if decoder . is_idle ( ) { 1 } else { 0 }",
-    ("cobs_small/encode", "jcobs_encode_in_place"): "encode_within ( buffer , message_len )",
-    ("cobs_small/encoder", "jcobs_encoder_push"): "encode_each ( encoder , buffer , bytes )",
-    ("cobs_small/encoder", "jcobs_encoder_finish"): "finish ( encoder , buffer )",
-    ("cobs_small/encoder", "jcobs_encoder_finish_terminated"): "finish_terminated ( encoder , buffer )",
-    ("cobs/dec/unbuffered", "feed"): "self . step ( dest , byte )",
-    ("cobs/enc/unbuffered", "reset"): "* self = UnbufferedEncoder :: new ( ) ;",
-    ("cobs/enc/unbuffered", "new"): "UnbufferedEncoder { index : 0 , taken : 0 , full : 0 , }",
-    ("cobs/dec/frame_decoder", "reported"): """match returned { Ok ( None ) | Err ( DecodeError :: EmptyFrame ) => None ,
-        Ok ( Some ( n ) ) => Some ( PieceEnd :: Message ( n ) ) , Err ( DecodeError :: InvalidFrame { decoded_bytes } ) =>
-        { Some ( PieceEnd :: Broken ( decoded_bytes ) ) } Err ( DecodeError :: TargetBufTooSmall ) =>
-        Some ( PieceEnd :: TooLong ) , }""",
-}
-# Functions that only convert the result of another function: in C they have the statements of that function, with the converted
-# results.
-MERGED = {"write_frame": ("cobs/enc/each", "try_encode_each"), "encode_byte": ("cobs/enc/step", "feed_len")}
-# Parameters that are a slice of which C passes only the pointer, because the length isn't read.
-NO_LENGTH = {("append_byte", 1), ("append_each", 1), ("write_each", 1), ("decode_blocks_each", 0)}
-# Parameters that are the same in each call, and constants in C.
-CONSTANTS = {"decode_each": {"sentinel": "0"}}
-# Words that aren't names of variables.
-KEPT = ("if", "else", "while", "for", "in", "do", "return", "break", "switch", "case")
-# For each way in which a piece or a frame can end, the variants that stand for it.
-ENDS = {"None": "NONE", "EmptyFrame": "NONE", "Message": "MESSAGE", "Broken": "BROKEN", "InvalidFrame": "BROKEN"}
-ENDS |= {"TooLong": "TOO_LONG", "TargetBufTooSmall": "TOO_LONG", "Some": "MESSAGE", "Ok": "MESSAGE"}
+CALLS = int(sys.argv[3]) if len(sys.argv) > 3 else 6000
+BY_HAND = ("jcobs_strerror", "jcobs_version", "jcobs_abi_1")
+# Blocks that no call reaches, by the function and the first words of the block.
+UNREACHED = set()
 TOKEN = re.compile(
-    r"""(?P<gap>\s+|//[^\n]*|/\*.*?\*/)|'[a-z_]\w*\s*:|"(?:\\.|[^"\\])*"|\w+|=>|->|::|\.\.|\+\+|--|&&|\|\||[-+*/%^=!<>]=|\S""",
+    r"""(?P<gap>\s+|//[^\n]*)|(?P<label>'[a-z]\w*(?!'))|(?P<string>b?"(?:\\.|[^"\\])*")|(?P<number>0x[\da-fA-F_]+|\d[\d_]*)|(?P<word>\w+)"""
+    r"""|(?P<sign>=>|->|::|\.\.|&&|\|\||[-+*/%^&|=!<>]=|\S)""",
     re.S,
 )
+LEVELS = [("||",), ("&&",), ("==", "!=", "<", ">", "<=", ">="), ("|",), ("^",), ("&",), ("+", "-"), ("*", "/", "%")]
+LIMITS = {"u8": 255, "u32": 2**32 - 1, "usize": 2**64 - 1}
 
 
-def words(text):
-    return [it[0] for it in TOKEN.finditer(text) if not it["gap"]]
+class Wrong(Exception):
+    pass
 
 
-def past(found, at, pairs=("(", ")", "{", "}", "[", "]")):
-    """Returns the index after the group that begins at `at`."""
+class Left(Exception):
+    """A return, break or continue."""
+
+    def __init__(self, kind, value=None):
+        self.kind, self.value = kind, value
+
+
+class Record:
+    """A struct. Members are numbers."""
+
+    def __init__(self, of, members):
+        self.of, self.members = of, members
+
+    def copy(self):
+        return Record(self.of, dict(self.members))
+
+    def __eq__(self, other):
+        return self.members == other.members
+
+
+class Slice:
+    def __init__(self, of, begin, length):
+        self.of, self.begin, self.length = of, begin, length
+
+    def at(self, index):
+        if not 0 <= index < self.length:
+            raise Wrong(f"index {index} of {self.length}")
+        return self.begin + index
+
+    def part(self, begin, end):
+        end = self.length if end is None else end
+        if not 0 <= begin <= end <= self.length:
+            raise Wrong(f"{begin}..{end} of {self.length}")
+        return Slice(self.of, self.begin + begin, end - begin)
+
+    def bytes(self):
+        return self.of[self.begin : self.begin + self.length]
+
+
+class Parser:
+    """Reads a body, or an expression, as nested tuples."""
+
+    def __init__(self, words):
+        self.words, self.i = [*words, ""], 0
+
+    def next(self):
+        self.i += 1
+        return self.words[self.i - 1]
+
+    def take(self, word):
+        if self.words[self.i] == word:
+            self.i += 1
+            return True
+        return False
+
+    def want(self, word):
+        if not self.take(word):
+            raise Wrong(f"{word} is wanted, at {' '.join(self.words[self.i : self.i + 8])}")
+
+    def block(self):
+        self.want("{")
+        begun, found, value = self.i, [], None
+        while not self.take("}"):
+            value = None
+            kind, *rest = self.statement()
+            if not self.take(";") and kind == "value" and self.words[self.i] == "}":
+                value = rest[0]
+            else:
+                found.append((kind, *rest))
+        return ("block", found, value, " ".join(self.words[begun : begun + 6]))
+
+    def statement(self):
+        if self.words[self.i][0] == "'" and self.words[self.i + 1] == ":":
+            self.i += 2
+        if self.take("let"):
+            pattern = self.pattern()
+            if self.take(":"):
+                self.type()
+            self.want("=")
+            value, other = self.expression(), self.block() if self.take("else") else None
+            self.want(";")
+            return ("let", pattern, value, other)
+        if self.take("while"):
+            return ("while", self.expression(False), self.block())
+        if self.take("loop"):
+            return ("while", ("number", 1), self.block())
+        if self.take("for"):
+            is_value, name = self.take("&"), self.next()
+            self.want("in")
+            return ("for", name, self.expression(False), self.block(), is_value)
+        if self.words[self.i] in ("if", "match"):
+            return ("value", self.primary(True))
+        value = self.expression()
+        if self.words[self.i] in ("=", "+=", "-=", "^=", "*="):
+            return ("assign", self.next(), value, self.expression())
+        return ("value", value)
+
+    def type(self):
+        begun, depth = self.i, 0
+        while depth or self.words[self.i] not in (",", "=", ";", ""):
+            depth += (self.words[self.i] in ("<", "(", "[")) - (self.words[self.i] in (">", ")", "]"))
+            self.i += 1
+        return " ".join(self.words[begun : self.i])
+
+    def pattern(self):
+        found = self.one_pattern()
+        while self.take("|"):
+            found = ("or", found, self.one_pattern())
+        return found
+
+    def one_pattern(self):
+        self.take("mut")
+        if self.take("("):
+            return ("tuple", self.several(")", self.pattern))
+        word = self.next()
+        while self.take("::"):
+            word = self.next()
+        if self.take("("):
+            return ("variant", word, self.several(")", self.pattern))
+        if self.words[self.i] == "{" and word[0].isupper():
+            self.i += 1
+            return ("fields", word, self.several("}", self.field_pattern))
+        return ("variant", word, []) if word[0].isupper() else ("name", word)
+
+    def field_pattern(self):
+        name = self.next()
+        return (name, self.pattern() if self.take(":") else ("name", name))
+
+    def several(self, end, read):
+        found = []
+        while not self.take(end):
+            found.append(read())
+            self.take(",")
+        return found
+
+    def expression(self, struct=True):
+        value = None if self.words[self.i] == ".." else self.binary(0, struct)
+        if self.take(".."):
+            return ("range", value, None if self.words[self.i] in ("]", "{", ")") else self.binary(0, struct))
+        return value
+
+    def binary(self, level, struct):
+        if level == len(LEVELS):
+            value = self.unary(struct)
+            while self.take("as"):
+                value = ("as", value, self.next())
+            return value
+        value = self.binary(level + 1, struct)
+        while self.words[self.i] in LEVELS[level]:
+            value = ("binary", self.next(), value, self.binary(level + 1, struct))
+        return value
+
+    def unary(self, struct):
+        if self.take("!"):
+            return ("not", self.unary(struct))
+        if self.take("*"):
+            return ("deref", self.unary(struct))
+        if self.take("&"):
+            self.take("mut")
+            return ("borrow", self.unary(struct))
+        value = self.primary(struct)
+        while True:
+            if self.take("."):
+                name = self.next()
+                value = ("method", name, value, self.several(")", self.expression)) if self.take("(") else ("field", name, value)
+            elif self.take("["):
+                value = ("index", value, self.expression())
+                self.want("]")
+            elif self.take("?"):
+                value = ("try", value)
+            else:
+                return value
+
+    def primary(self, struct):
+        word = self.next()
+        if word[0].isdigit():
+            return ("number", int(word.replace("_", ""), 0))
+        if word == "(":
+            found = self.several(")", self.expression)
+            return found[0] if len(found) == 1 else ("tuple", found)
+        if word == "[":
+            return ("array", self.several("]", self.expression))
+        if word == "{":
+            self.i -= 1
+            return self.block()
+        if word in ("return", "break", "continue"):
+            return ("leave", word, None if self.words[self.i] in (";", "}", ",") else self.expression())
+        if word == "if":
+            return self.condition()
+        if word == "match":
+            value = self.expression(False)
+            self.want("{")
+            return ("match", value, self.several("}", self.arm))
+        path = [word]
+        while self.take("::"):
+            path.append(self.next())
+        if self.take("("):
+            return ("call", path, self.several(")", self.expression))
+        if struct and self.words[self.i] == "{" and path[-1][0].isupper():
+            self.i += 1
+            return ("struct", path, self.several("}", self.field))
+        return ("path", path)
+
+    def condition(self):
+        pattern = None
+        if self.take("let"):
+            pattern = self.pattern()
+            self.want("=")
+        value, then = self.expression(False), self.block()
+        other = None
+        if self.take("else"):
+            other = self.condition() if self.take("if") else self.block()
+        return ("if", pattern, value, then, other)
+
+    def arm(self):
+        pattern = self.pattern()
+        self.want("=>")
+        value = self.expression()
+        if self.words[self.i] == "=":
+            value = ("block", [("assign", self.next(), value, self.expression())], None, "an arm")
+        return (pattern, value)
+
+    def field(self):
+        if self.take(".."):
+            return ("..", self.expression())
+        name = self.next()
+        return (name, self.expression() if self.take(":") else ("path", [name]))
+
+
+def ending(words, at):
+    """Returns the index after the group of brackets that begins at `at`."""
     depth = 0
     while True:
-        depth += (found[at] in pairs[::2]) - (found[at] in pairs[1::2])
+        depth += (words[at] in ("(", "{", "[")) - (words[at] in (")", "}", "]"))
         at += 1
         if depth == 0:
             return at
 
 
-def again(pattern, new, text):
-    """Returns the text with each match replaced until there is no match."""
-    while (made := re.sub(pattern, new, text)) != text:
-        text = made
-    return text
+class Program:
+    """The functions, constants and structs of the crates."""
 
+    def __init__(self):
+        self.functions, self.constants, self.members, self.reached, self.blocks = {}, {}, {}, set(), {}
+        for crate in ("cobs_c", "cobs"):
+            for path in sorted((CRATES / crate / "src").rglob("*.rt")):
+                words = [it[0] for it in TOKEN.finditer(path.read_text()) if it.lastgroup != "gap"]
+                self.read(path, words, 0, len(words), "")
 
-GROUP = r"((?:[^(){}\[\]]|\((?:[^()]|\((?:[^()]|\([^()]*\))*\))*\)|\[[^\[\]]*\])*?)"
-
-
-class Rattle:
-    """Returns a function of Rattle in the form that is compared."""
-
-    def __init__(self, name, params, result, body):
-        self.name, self.result = name, result
-        self.params = [(part[0], " ".join(part[2:])) for part in parted(params)]
-        self.slices = {it for it, kind in self.params if "[ u8 ]" in kind}
-        self.text = " ".join(it for it in body if not re.match(r"'\w+\s*:", it))
-
-    def written(self):
-        text = re.sub(r"\blaw_\d+ \( \) ; ?", "", self.text)
-        for parameter, value in CONSTANTS.get(self.name, {}).items():
-            text = re.sub(rf"\b{parameter}\b", value, text)
-        text = re.sub(r"\blet (mut )?(\w+) : \w+ =", r"let \2 =", text)
-        text = self.ends(self.with_slices(self.small(text)))
-        # The result for no bytes is the result of the function that makes it for this end. These two results are compared too.
-        text = re.sub(r"\bresult_by \( 0 , [\w#]+ , make_end \( NONE , 0 \) \)", "make_answer ( EMPTY , 0 , 0 )", text)
-        text = self.block(text.split(), self.result != "")
-        return returned_apart(again(r"(?<=[|&=(,<>+-]) \( (\w+(?: \. \w+)?) \)", r" \1", text))
-
-    def small(self, text):
-        """Returns the words that stand for one word or operator of C."""
-        text = re.sub(r"\( ([^()]*) \) as (usize|u8)", r"\1", text)
-        text = re.sub(r" as (usize|u8|u32)\b", "", text)
-        text = re.sub(r"\bFrameKind :: (\w+)", lambda it: re.sub(r"(?<=[a-zA])(?=[A-Z])", "_", it[1]).upper(), text)
-        text = re.sub(r"([=,]) [*&] (self|encoder)\b", r"\1 \2", re.sub(r"\blet mut (\w+) = \1 ;", "", text))
-        for members in ("written", "missing", "joint", "too_long"), ("index", "taken", "full"):  # a copy of the whole state
-            for other in "here", "encoder":
-                text = text.replace(" ".join(f"self . {it} = {other} . {it} ;" for it in members), f"self = {other} ;")
-        text = re.sub(r"\* (\w+) = (START|Unbuffered\w+ :: new \( \)) ;|(\w+) \. reset \( \) ;", lambda it: f"start ( {it[1] or it[3]} ) ;", text)
-        text = re.sub(r"= Unbuffered\w+ :: new \( \) ;", "= INIT ;", text)
-        text = re.sub(r"PieceEnd :: reported \( (\w+(?: \. \w+)? \( (?:[^()]|\( [^()]*\))*\)) \)", r"\1", text)
-        text = re.sub(r"\bFULL\b", "FULL_CODE", re.sub(r"\b254\b", "FULL_BLOCK_BYTES", text))
-        # A constant on the left of a comparison is on the right in C, and 253 is called by the next number.
-        text = re.sub(r"(?<=if )253 < (\w+(?: \. \w+)?)(?= \|\|)", r"\1 >= FULL_BLOCK_BYTES", text)
-        text = re.sub(r"(?<=if )FULL_BLOCK_BYTES < (\w+)(?= \|\|)", r"\1 > FULL_BLOCK_BYTES", text)
-        text = re.sub(r"(\w+) \. div_ceil \( (\w+) \)", r"\1 / \2 + ( \1 % \2 != 0 ? 1 : 0 )", text)
-        text = re.sub(r"(\w+) \. checked_add \( (.*?) \) \. unwrap_or \( 0 \)", r"sum_or_zero ( \1 , \2 )", text)
-        text = re.sub(r"(\w+) \. wrapping_(add|sub) \( (\w+) \)", lambda it: f"{it[1]} {'+' if it[2] == 'add' else '-'} {it[3]}", text)
-        return re.sub(r"\bAnswer \{ ([^{}]*?),? \}", self.answer, re.sub(r"\b(true|false)\b", lambda it: "01"[it[0] == "true"], text))
-
-    def answer(self, found):
-        parts = [" ".join(part).split(" : ") for part in parted(found[1].split())]
-        if [it[0].strip() for it in parts] != ["status", "consumed", "length"]:
-            raise ValueError(f"the members of {found[0]}")
-        return f"make_answer ( {' , '.join(it[-1].strip() for it in parts)} )"
-
-    def with_slices(self, text):
-        """Slices as pointers and lengths, methods as functions, and `min`."""
-        for name in sorted(self.slices | {"rest"}):
-            text = re.sub(rf"\blet (mut )?(\w+) = {name} ;", rf"\2 = {name} ; \2#len = {name}#len ;", text) if name in self.slices else text
-            text = re.sub(rf"\b{name} \. len \( \)", f"{name}#len", text)
-            text = re.sub(rf"! {name} \. is_empty \( \)", f"{name}#len != 0", text)
-            text = re.sub(rf"\b{name} \. is_empty \( \)", f"{name}#len == 0", text)
-            text = re.sub(rf"\brest = & rest \[ (\w+) \.\. \] ;", r"rest += \1 ; rest#len -= \1 ;", text)
-            text = re.sub(rf"\blet rest = & {name} \[ (\w+) \.\. \] ;", rf"rest = {name} + \1 ; rest#len = {name}#len - \1 ;", text)
-            text = re.sub(rf"& mut {name} \[ \.\. (\w+) \]", rf"{name}#to#\1", text)
-        for name in self.slices:  # a slice keeps its length, which needs no variable
-            if found := re.search(rf"\blet (\w+) = {name}#len ; ", text):
-                text = re.sub(rf"\b{found[1]}\b", f"{name}#len", text.replace(found[0], "", 1))
-        text = again(r"([\w#]+(?: \. \w+)?) \. min \(", r"min ( \1 ,", text)
-        text = again(r"\b(\w+) \. (\w+) \( (\))?", lambda it: f"{it[2]} ( {it[1]} " + (")" if it[3] else ", "), text)
-        text = re.sub(rf"(\w+ \( {GROUP}\)) \. is_err \( \)", r"! \1", text)
-        return self.with_lengths(text.split())
-
-    def with_lengths(self, found):
-        out, at = [], 0
-        while at < len(found):
-            out.append(found[at])
-            at += 1
-            if found[at - 1] == "(" and at > 1 and re.fullmatch(r"[a-z]\w*", found[at - 2]) and found[at - 2] not in ("if", "while", "in"):
-                end = past(found, at - 1)
-                args = [self.with_lengths(it).split() for it in parted(found[at : end - 1])]
-                for i, arg in enumerate(args):
-                    if len(arg) == 1 and "#to#" in arg[0]:
-                        arg[:] = arg[0].replace("#to#", " , ").split()
-                    elif len(arg) == 1 and arg[0] in self.slices and (found[at - 2], i) not in NO_LENGTH:
-                        arg += [",", f"{arg[0]}#len"]
-                out += " , ".join(" ".join(it) for it in args).split() + [")"]
-                at = end
-        return " ".join(out)
-
-    def ends(self, text):
-        """Returns the words for the end of a piece or a frame."""
-        text = re.sub(r"\bmatch end \{ Some \( end \) => Some \( \( end , (\w+) \) \) , None => None , \}", r"make_piece ( end . kind , end . count , \1 )", text)
-        for variant, kind in ("Message", "MESSAGE"), ("Broken", "BROKEN"):
-            text = re.sub(rf"Some \( \( PieceEnd :: {variant} \( (\w+) \) , {GROUP}\) \)", rf"make_piece ( {kind} , \1 , \2)", text)
-        text = re.sub(rf"Some \( \( PieceEnd :: TooLong , {GROUP}\) \)", r"make_piece ( TOO_LONG , 0 , \1)", text)
-        text = re.sub(r"(?<!let )Some \( \( end , (\w+) \) \)", r"make_piece ( end . kind , end . count , \1 )", text)
-        text = re.sub(r"\bOk \( Some \( ([\w .]+) \) \)(?! =>)", r"make_end ( MESSAGE , \1 )", re.sub(r"\bOk \( None \)(?! [|=])", "make_end ( NONE , 0 )", text))
-        text = re.sub(r"\bErr \( DecodeError :: InvalidFrame \{ decoded_bytes : ([\w .]+?) ,? ?\} \)", r"make_end ( BROKEN , \1 )", text)
-        text = re.sub(r"\bErr \( DecodeError :: (TargetBufTooSmall|EmptyFrame) \)(?! =>)", lambda it: f"make_end ( {ENDS[it[1]]} , 0 )", text)
-        text = re.sub(r"\bend = None ;", "end = make_end ( NONE , 0 ) ;", text)
-        if self.result.startswith("Option < ("):
-            text = re.sub(r"\breturn None\b|(?<=; )None$", lambda it: it[0].replace("None", "make_piece ( NONE , 0 , 0 )"), text)
-        if self.result.startswith("Result < ( )"):
-            return text.replace("Ok ( ( ) )", "1").replace("Err ( DestBufTooSmallError )", "0")
-        is_frame = self.result.startswith("Result < usize , DestBufTooSmallError")
-        text = text.replace("Err ( DestBufTooSmallError )", "make_frame_length ( 0 , 0 )") if is_frame else text
-        return re.sub(rf"\bOk \( {GROUP}\)(?! =>)", rf"make_{'frame_length ( 1' if is_frame else 'end ( MESSAGE'} , \1)", text)
-
-    def block(self, found, returns):
-        """Returns the statements of a block. The value of the block is returned if the function has a result and ends with this block."""
-        out, at = [], 0
-        while at < len(found):
-            at, made = self.statement(found, at, returns)
-            out.append(made)
-        return " ".join(out)
-
-    def statement(self, found, at, returns):
-        word = found[at]
-        if word == "let" and "else" in found[at : found.index(";", at)] and found[at + 1] == "Some":
-            return self.let_else(found, at)
-        if word == "let":
-            return at + 1 + (found[at + 1] == "mut"), ""
-        if word == "match":
-            return self.match(found, at)
-        if word in ("while", "for"):
-            begin = found.index("{", at)
-            end = past(found, begin)
-            return end, " ".join([*found[at : begin + 1], self.block(found[begin + 1 : end - 1], False), "}"])
-        if word == "loop":
-            end = past(found, at + 1)
-            inner = found[at + 2 : end - 1]
-            cut = len(inner) - 1 - inner[::-1].index("if")
-            condition, last = inner[cut + 1 : -4], inner[-4:]
-            if last != ["{", "break", ";", "}"] or condition[1] != "==":
-                raise ValueError("a loop that doesn't end with a test whether two numbers are equal")
-            return end, f"do {{ {self.block(inner[:cut], False)} }} while {condition[0]} != {' '.join(condition[2:])} ;"
-        if word == "if":
-            return self.condition(found, at, returns)
-        end = at
-        while end < len(found) and found[end] != ";":
-            end = past(found, end) if found[end] in "([{" else end + 1
-        text = self.values(" ".join(found[at:end]))
-        if end < len(found):
-            return end + 1, f"{text} ;"
-        return end, f"return {text} ;" if returns else f"{text} ;"
-
-    def values(self, text):
-        return re.sub(r"\bif ([^{}]*) \{ ([^{};]*) \} else \{ ([^{};]*) \}", r"\1 ? \2 : \3", text)
-
-    def condition(self, found, at, returns):
-        begin = found.index("{", at)
-        end = past(found, begin)
-        head, then = found[at + 1 : begin], found[begin + 1 : end - 1]
-        at = end + (end < len(found) and found[end] == ";")
-        is_last = at == len(found) or found[end] == "else" and past(found, found.index("{", end)) == len(found)
-        before = ""
-        if head[0] == "let":  # `if let Some(end) = ..`
-            before, head = f"{head[3]} = {' '.join(head[6:])} ; ", [head[3], ".", "kind", "!=", "NONE"]
-        inner = self.block(then, returns and is_last)
-        text = f"if {' '.join(head)} {{ {inner} }}"
-        if end < len(found) and found[end] == "else":
-            if found[end + 1] == "if":
-                at, other = self.condition(found, end + 1, returns)
-                return at, f"{before}{text} else {{ {other} }}" if found[end + 2] == "let" else f"{before}{text} else {other}"
-            at = past(found, end + 1)
-            other = self.block(found[end + 2 : at - 1], returns and is_last)
-            text += f" {other}" if returns and is_last and inner.strip().startswith("return") else f" else {{ {other} }}"
-        return at, before + text
-
-    def arms(self, found, at):
-        """Yields the arms of a match, as lists of the words of their patterns and values."""
-        begin = found.index("{", at)
-        end, at = past(found, begin), begin + 1
-        while at < end - 1:
-            mark = found.index("=>", at)
-            stop = mark + 1
-            if found[stop] == "{":
-                stop = past(found, stop)
-                body, after = found[mark + 2 : stop - 1], stop + (found[stop] == ",")
+    def read(self, path, words, at, end, owner):
+        while at < end:
+            word = words[at]
+            if word == "impl":
+                begin = words.index("{", at)
+                stop = ending(words, begin)
+                if begin == at + 2:
+                    self.read(path, words, begin + 1, stop - 1, words[at + 1])
+                at = stop
+            elif word == "fn":
+                at = self.function(path, words, at, owner)
+            elif word == "const" and words[at + 2] == ":":
+                stop = words.index(";", at)
+                self.constants[words[at + 1]] = words[words.index("=", at) + 1 : stop]
+                at = stop
+            elif word == "struct" and words[at + 2] == "{":
+                stop = ending(words, at + 2)
+                self.members[words[at + 1]] = dict(re.findall(r"(\w+) : (\w+)", " ".join(words[at + 2 : stop])))
+                at = stop
+            elif word in ("trait", "macro_rules"):
+                at = ending(words, words.index("{", at))
             else:
-                while found[stop] != "," and stop < end - 1:
-                    stop = past(found, stop) if found[stop] in "([{" else stop + 1
-                body, after = found[mark + 1 : stop], stop + 1
-            yield found[at:mark], body
-            at = after
+                at = ending(words, at) if word == "{" else at + 1
 
-    def match(self, found, at):
-        begin = found.index("{", at)
-        of, arms = " ".join(found[at + 1 : begin]), list(self.arms(found, at))
-        end = past(found, begin)
-        if arms[0][0][0] == "NOT_A_FRAME":  # each variant is its constant of jcobs.h
-            for pattern, body in arms:
-                if pattern != body:
-                    raise ValueError(f"{pattern} becomes {body}")
-            return end, f"return {of} ;"
-        if arms[1][0][0] == "Err" and arms[1][0][2] == "_":
-            fits, other = (self.block(body, True) for _, body in arms)
-            return end, f"result = {of} ; if result . fits {{ {renamed(arms[0][0][2], 'result . length', fits)} }} {other}"
-        return end, f"switch {of} . kind {{ {self.cases(arms, of)} }}"
-
-    def cases(self, arms, of):
-        out = []
-        for pattern, body in arms:
-            kind = ENDS[[it for it in pattern if it in ENDS][-1]]
-            names = [it for it in pattern if re.fullmatch(r"[a-z]\w*", it)]
-            made = self.block(body, True)
-            out.append(f"case {kind} : {renamed(names[0], f'{of} . count', made) if names else made}")
-        return " ".join(out)
-
-    def let_else(self, found, at):
-        """`let Some((end, consumed)) = X else { .. };`, and the match of the end after it."""
-        end, consumed = found[at + 4], found[at + 6]
-        mark = found.index("else", at)
-        stop = past(found, mark + 1) + 1
-        of = found[found.index("=", at) + 1 : mark]
-        none = found[mark + 2 : stop - 2]
-        if found[stop : stop + 2] != ["match", end]:
-            raise ValueError("a let with else has no match after it")
-        piece = "piece" if len(of) > 1 else of[0]
-        cases = self.cases([*self.arms(found, stop), (["None"], none)], piece)
-        cases = renamed(consumed, f"{piece} . consumed", cases)
-        first = f"{piece} = {' '.join(of)} ; " if len(of) > 1 else ""
-        return past(found, found.index("{", stop)), f"{first}switch {piece} . kind {{ {cases} }}"
-
-
-def renamed(name, new, text):
-    return re.sub(rf"\b{name}\b", new, text)
-
-
-def parted(found):
-    """Returns the parts between the commas of this level."""
-    parts, at, begun = [], 0, 0
-    while at < len(found):
-        if found[at] == ",":
-            parts.append(found[begun:at])
-            begun = at = at + 1
-        else:
-            at = past(found, at) if found[at] in "([{" else at + 1
-    return [it for it in [*parts, found[begun:]] if it]
-
-
-def of_rattle(path):
-    """Returns the functions of a file, by their names."""
-    found, functions, at = words(path.read_text()), {}, 0
-    while at < len(found):
-        if found[at] != "fn":
+    def function(self, path, words, at, owner):
+        name, at = words[at + 1], words.index("(", at)
+        stop = ending(words, at)
+        params, given = [], Parser(words[at + 1 : stop - 1])
+        while given.words[given.i]:
+            is_borrowed = given.take("&")
+            given.take("mut")
+            param = given.next()
+            kind = given.type() if given.take(":") else f"{'& ' * is_borrowed}{owner}"
+            params.append((param, kind))
+            given.take(",")
+        at = stop
+        while words[at] not in ("{", "requires", "ensures", ";"):
             at += 1
-            continue
-        name, begin = found[at + 1], found.index("(", at)
-        end = past(found, begin)
-        params = [it for it in found[begin + 1 : end - 1] if it not in ("mut", "&")]
-        at, result = end, []
-        while found[at] not in ("{", "requires", "ensures"):
-            result.append(found[at])
-            at += 1
-        while found[at] in ("requires", "ensures"):
-            at = past(found, found.index("{", at))
-        end = past(found, at)
-        params = [":".join(it) if it == ["self"] else it for it in parted(params)]
-        flat = [word for it in params for word in ([*(["self", ":", "Self"] if it == "self" else it), ","])]
-        functions.setdefault(name, Rattle(name, flat, " ".join(result[1:]), found[at + 1 : end - 1]))
-        at = end
-    return functions
+        while words[at] in ("requires", "ensures"):
+            at = ending(words, words.index("{", at))
+        if words[at] == ";":
+            return at + 1
+        stop = ending(words, at)
+        self.functions.setdefault(f"{owner}::{name}" if owner else name, []).append((path, params, words[at:stop]))
+        return stop
+
+    def found(self, name, path):
+        """Returns the function with this name, in the form ("NAME", PARAMETERS, BODY). If there are several, that of this file counts."""
+        them = self.functions[name]
+        one = next((it for it in them if it[0] == path), them[0])
+        if len(them) > 1 and one[0] != path:
+            raise Wrong(f"{name} is in several files")
+        key = (one[0], name)
+        if key not in self.blocks:
+            self.blocks[key] = (one[0], name, one[1], Parser(one[2]).block())
+        return self.blocks[key]
 
 
-TYPES = r"(?:const )?(?:size_t|unsigned char|int|jcobs_(?:decoder|encoder|end|piece|frame_length|answer))(?: \*)?(?: const)?"
+class Machine:
+    """Runs a function."""
 
+    def __init__(self, program, short):
+        self.program, self.short = program, short
 
-def of_c(text):
-    """Returns the functions of jcobs.c up to those that are written by hand: the words of each function, and its parameters."""
-    text = text[: text.index("/* ---- Written by hand: ")]
-    heads = re.finditer(r"^(?!typedef|enum|#|/| )[\w *]*?\b(jcobs_\w+)\(([^{;]*)\)\n\{\n(.*?)^\}", text, re.S | re.M)
-    return {it[1].removeprefix("jcobs_"): in_one_form(" ".join(words(it[3]))) for it in heads}
-
-
-def in_one_form(text):
-    text = re.sub(r"\( (const )?(size_t|unsigned char)( \*)? \) (\( ([^()]*) \)(?! \[))?", lambda it: it[5] or "", text)
-    if found := re.match(rf"{TYPES} (data|\w+_bytes) = (\w+) ; ", text):
-        text = re.sub(rf"\b{found[1]}\b", found[2], text[found.end() :])
-    text = re.sub(rf"\bfor \( size_t (\w+) = (\w+) ; \1 < (\w+) ; \1 \+\+ \)", r"for \1 in \2 .. \3", text)
-    text = re.sub(rf"(?<=[;{{}}] ){TYPES} (\w+) =|^{TYPES} (\w+) =", lambda it: f"{it[1] or it[2]} =", text)
-    text = re.sub(r"(?<=[=;{}(,] )[&*] (?=\w)", "", text.replace("->", "."))
-    text = re.sub(r"\bJCOBS_(?:END_)?", "", re.sub(r"\bJCOBS_\w+_INIT\b", "INIT", text))
-    text = re.sub(r"(\w+) \+\+", r"\1 += 1", text)
-    text = re.sub(r"(\w+(?: \. \w+)?) --", r"\1 -= 1", text)
-    text = re.sub(r"\bjcobs_(?:decoder|encoder)_init\b", "start", text)
-    found, out, at = text.split(), [], 0
-    while at < len(found):  # conditions, without their brackets
-        out.append(found[at])
-        at += 1
-        if out[-1] in ("if", "while", "switch") and found[at] == "(":
-            end = past(found, at)
-            out += found[at + 1 : end - 1]
-            at = end
-    text = re.sub(r"case (\w+) : break ; \} (.*)$", r"case \1 : \2 }", " ".join(out))
-    return returned_apart(text)
-
-
-def returned_apart(text):
-    """Of two values that are returned each in a statement of its own."""
-    return re.sub(r"\breturn ([^;]*?) \? ([^;]*?) : ([^;]*?) ;", r"if \1 { return \2 ; } return \3 ;", text)
-
-
-def same(mine, theirs, names):
-    """Returns the first place at which two lists of words differ, apart from the names of variables."""
-    there, back = {}, {}
-    for at, (a, b) in enumerate(zip([*mine, "the end"], [*theirs, "the end"])):
-        if re.fullmatch(r"[a-z][\w#]*", a) and re.fullmatch(r"[a-z][\w#]*", b) and a not in KEPT and (at == 0 or mine[at - 1] != "."):
-            if mine[at + 1 : at + 2] == ["("]:
-                if names.get(b, b.removeprefix("jcobs_")) == a:
-                    continue
-            elif there.setdefault(a, b) == b and back.setdefault(b, a) == a:
-                continue
-        elif a == b:
-            continue
-        return f"after '{' '.join(mine[max(0, at - 8) : at])}' Rattle has '{' '.join(mine[at : at + 6])}', and C '{' '.join(theirs[at : at + 6])}'"
-    return None
-
-
-def merged(outer, inner):
-    """Returns the statements of a function, with the results that the other function makes from its length and its error."""
-    args = " , ".join(f"{name} , {name}#len" if name in outer.slices else name for name, _ in outer.params)
-    found = re.fullmatch(
-        rf"result = {inner.name} \( {args} \) ; if result \. fits {{ return ([^;]*) ; }} return ([^;]*) ;", outer.written()
-    )
-    if not found or found[1].split().count("result") != 1:
-        raise ValueError(f"it does more than to convert the result of {inner.name}")
-    text = inner.written()
-    text = re.sub(r"\breturn make_frame_length \( 0 , 0 \) ;", f"return {found[2]} ;", text)
-    text = re.sub(r"\breturn make_frame_length \( 1 , ([^;]*) \) ;", lambda it: f"return {found[1].replace('result . length', it[1])} ;", text)
-    if "make_frame_length" in text:
-        raise ValueError(f"a result of {inner.name} isn't converted")
-    return text.split()
-
-
-def compared():
-    functions = of_c(SOURCE.read_text())
-    values = dict(re.findall(r"^    JCOBS_(FULL\w+) = (\d+)", SOURCE.read_text(), re.M))
-    if values != {"FULL_BLOCK_BYTES": "254", "FULL_CODE": "255"}:
-        yield f"the constants are {values}"
-    pairs = {}
-    for place, text in PAIRS.items():
-        for word in text.split():
-            name, _, rattle = word.partition("=")
-            pairs[name] = (place, rattle or name)
-    places = {*PAIRS, *(place for place, _ in (*PASSED_ON, *MERGED.values()))}
-    crates = {place: of_rattle(CRATES / f"{place.replace('/', '/src/', 1)}.rt") for place in places}
-    for (place, name), text in PASSED_ON.items():
-        if (found := crates[place][name].text) != " ".join(text.split()):
-            yield f"{place}, {name}: it is '{found}'"
-    names = {f"jcobs_{name}": rattle for name, (_, rattle) in pairs.items()} | {"jcobs_decoder_step": "feed"}
-    written = {name for name in functions if not re.match(r"make_|min$|sum_or_zero$|\w+coder_init$", name)}
-    yield from (f"{name}: no function of Rattle is named" for name in sorted(written - set(pairs)))
-    for name, (place, rattle) in pairs.items():
-        if name not in functions:
-            yield f"there is no jcobs_{name}"
-            continue
+    def call(self, name, path, args):
+        path, name, params, body = self.program.found(name, path)
+        env = {}
+        for (param, kind), arg in zip(params, args, strict=True):
+            env[param] = arg.copy() if isinstance(arg, Record) and kind[0] != "&" else arg
+            if kind in LIMITS and not 0 <= arg <= LIMITS[kind]:
+                raise Wrong(f"{name}: {param} is {arg}")
         try:
-            mine = crates[place][rattle].written().split()
-            if rattle in MERGED:
-                inner, called = MERGED[rattle]
-                mine = merged(crates[place][rattle], crates[inner][called])
-        except (IndexError, KeyError, TypeError, ValueError) as what:
-            yield f"{place}, {rattle}: {what!r}"
-            continue
-        if found := same(mine, functions[name].split(), names):
-            yield f"jcobs_{name}: {found}"
+            return Frame(self, path, name, env).value(body)
+        except Left as left:
+            return left.value
+
+
+class Frame:
+    def __init__(self, machine, path, name, env):
+        self.machine, self.path, self.name, self.env = machine, path, name, env
+
+    def value(self, tree):
+        return getattr(self, f"on_{tree[0]}")(*tree[1:])
+
+    def number(self, value):
+        if not 0 <= value < 2**64:
+            raise Wrong(f"{self.name}: {value} overflows")
+        return value
+
+    def on_block(self, statements, value, words):
+        self.machine.program.reached.add((self.path, self.name, words))
+        before = dict(self.env)
+        try:
+            for statement in statements:
+                self.run(statement)
+            return () if value is None else self.value(value)
+        finally:
+            self.env = {name: self.env[name] if name not in self.fresh(statements) else it for name, it in before.items()}
+
+    def fresh(self, statements):
+        """Returns the names that these statements declare."""
+        return set(re.findall(r"\('name', '(\w+)'\)", str([it[1] for it in statements if it[0] == "let"])))
+
+    def run(self, statement):
+        kind, *rest = statement
+        if kind == "let":
+            pattern, tree, other = rest
+            value = self.value(tree)
+            value = value.copy() if isinstance(value, Record) and tree[0] == "path" else value
+            if not self.bind(pattern, value):
+                self.value(other)
+                raise Wrong(f"{self.name}: the else goes on")
+        elif kind == "value":
+            self.value(rest[0])
+        elif kind == "while":
+            while self.value(rest[0]):
+                try:
+                    self.value(rest[1])
+                except Left as left:
+                    if left.kind == "return":
+                        raise
+                    if left.kind == "break":
+                        break
+        elif kind == "for":
+            self.each(*rest)
+        else:
+            self.assign(*rest)
+
+    def each(self, name, over, body, is_value):
+        over = self.value(over)
+        if isinstance(over, Slice):
+            over = over.bytes() if is_value else [("byte", over, i) for i in range(over.length)]
+        for value in over:
+            self.env[name] = value
+            try:
+                self.value(body)
+            except Left as left:
+                if left.kind == "return":
+                    raise
+                if left.kind == "break":
+                    break
+        self.env.pop(name, None)
+
+    def assign(self, sign, to, tree):
+        value = self.value(tree)
+        if sign != "=":
+            value = self.combined(sign[0], self.value(to), value)
+        if to[0] == "path":
+            self.env[to[1][0]] = value
+        elif to[0] == "field":
+            of = self.value(to[2])
+            if value > LIMITS[self.machine.program.members[of.of][to[1]]]:
+                raise Wrong(f"{self.name}: {to[1]} becomes {value}")
+            of.members[to[1]] = value
+        elif to[0] == "index":
+            of = self.value(to[1])
+            of.of[of.at(self.value(to[2]))] = value
+        else:
+            of = self.value(to[1])
+            if isinstance(of, tuple):
+                of[1].of[of[1].at(of[2])] = value
+            else:
+                of.members.update(value.members)
+
+    def bind(self, pattern, value):
+        """Gives the names of a pattern their values, and returns whether the pattern matches."""
+        kind, *rest = pattern
+        if kind == "name":
+            if rest[0] != "_":
+                self.env[rest[0]] = value
+            return True
+        if kind == "or":
+            return any(self.bind(it, value) for it in rest)
+        if kind == "tuple":
+            return all(self.bind(it, each) for it, each in zip(rest[0], value, strict=True))
+        if value[0] != rest[0]:
+            return False
+        if kind == "fields":
+            return all(self.bind(it, value[1][name]) for name, it in rest[1])
+        return all(self.bind(it, each) for it, each in zip(rest[1], value[1:], strict=True))
+
+    def on_number(self, value):
+        return value
+
+    def on_path(self, path):
+        if path[-1] in self.env and len(path) == 1:
+            return self.env[path[0]]
+        if path[-1] in ("true", "false"):
+            return path[-1] == "true"
+        if path[-1] == "SHORT":
+            return self.machine.short
+        if path == ["usize", "MAX"]:
+            return 2**64 - 1
+        if path[-1] in self.machine.program.constants and len(path) == 1:
+            return Frame(self.machine, self.path, path[0], {}).value(Parser(self.machine.program.constants[path[0]]).expression())
+        if not path[-1][0].isupper():
+            raise Wrong(f"{self.name}: {path}")
+        return (path[-1],)
+
+    def on_tuple(self, parts):
+        return tuple(map(self.value, parts))
+
+    def on_array(self, parts):
+        return Slice(bytearray(map(self.value, parts)), 0, len(parts))
+
+    def on_struct(self, path, fields):
+        found = {name: self.value(it) for name, it in fields}
+        rest = found.pop("..", None)
+        if path[-1] not in self.machine.program.members:
+            return (path[-1], found)
+        members = self.machine.program.members[path[-1]]
+        values = {**(rest.members if rest else {}), **found}
+        if set(values) != set(members) or any(values[it] > LIMITS[kind] for it, kind in members.items()):
+            raise Wrong(f"{self.name}: the members {values}")
+        return Record(path[-1], values)
+
+    def on_field(self, name, of):
+        return self.value(of).members[name]
+
+    def on_index(self, of, index):
+        of = self.value(of)
+        if index[0] == "range":
+            return of.part(self.value(index[1]) if index[1] else 0, self.value(index[2]) if index[2] else None)
+        return of.of[of.at(self.value(index))]
+
+    def on_range(self, begin, end):
+        return range(self.value(begin), self.value(end))
+
+    def on_borrow(self, of):
+        return self.value(of)
+
+    def on_deref(self, of):
+        of = self.value(of)
+        return of.copy() if isinstance(of, Record) else of[1].of[of[1].at(of[2])]
+
+    def on_not(self, of):
+        return not self.value(of)
+
+    def on_as(self, of, kind):
+        return int(self.value(of)) & LIMITS[kind]
+
+    def on_binary(self, sign, left, right):
+        if sign in ("&&", "||"):
+            return bool(self.value(left)) and bool(self.value(right)) if sign == "&&" else bool(self.value(left)) or bool(self.value(right))
+        return self.combined(sign, self.value(left), self.value(right))
+
+    def combined(self, sign, a, b):
+        if sign in LEVELS[2]:
+            return {"==": a == b, "!=": a != b}[sign] if sign in ("==", "!=") else {"<": a < b, ">": a > b, "<=": a <= b, ">=": a >= b}[sign]
+        return self.number({"+": lambda: a + b, "-": lambda: a - b, "*": lambda: a * b, "/": lambda: a // b, "%": lambda: a % b}[sign]() if sign in "+-*/%" else a ^ b)
+
+    def on_leave(self, kind, value):
+        raise Left(kind, () if value is None else self.value(value))
+
+    def on_if(self, pattern, value, then, other):
+        before = dict(self.env)
+        of = self.value(value)
+        if self.bind(pattern, of) if pattern else of:
+            return self.inside(before, then)
+        return () if other is None else self.value(other)
+
+    def inside(self, before, tree):
+        value = self.value(tree)
+        self.env = {name: self.env.get(name, it) for name, it in before.items()}
+        return value
+
+    def on_match(self, value, arms):
+        value, before = self.value(value), dict(self.env)
+        for at, (pattern, body) in enumerate(arms):
+            self.env = dict(before)
+            if self.bind(pattern, value):
+                self.machine.program.reached.add((self.path, self.name, f"arm {at} {pattern}"))
+                return self.inside(before, body)
+        raise Wrong(f"{self.name}: no arm for {value}")
+
+    def on_try(self, tree):
+        value = self.value(tree)
+        if value[0] in ("None", "Err"):
+            raise Left("return", value)
+        return value[1]
+
+    def on_call(self, path, args):
+        name = path[-1]
+        args = [self.value(it) for it in args]
+        if name[0].isupper():
+            return (name, *args)
+        if re.fullmatch(r"law_\d+", name):
+            return ()
+        if name in ("memchr", "memrchr"):
+            byte, of = args
+            at = (of.bytes().find if name == "memchr" else of.bytes().rfind)(byte)
+            return ("None",) if at < 0 else ("Some", at)
+        owner = f"{path[-2]}::" if len(path) > 1 and path[-2][0].isupper() else ""
+        return self.machine.call(owner + name, self.path, args)
+
+    def on_method(self, name, of, args):
+        of, args = self.value(of), [self.value(it) for it in args]
+        if isinstance(of, Record):
+            return self.machine.call(f"{of.of}::{name}", self.path, [of, *args])
+        if isinstance(of, Slice):
+            return self.of_slice(name, of, args)
+        if isinstance(of, tuple):
+            if name == "unwrap_or":
+                return of[1] if of[0] in ("Some", "Ok") else args[0]
+            return {"is_err": of[0] == "Err", "is_ok": of[0] == "Ok", "is_some": of[0] == "Some", "is_none": of[0] == "None"}[name]
+        return self.of_number(name, of, *args)
+
+    def of_number(self, name, a, b):
+        if name == "checked_add":
+            return ("Some", a + b) if a + b < 2**64 else ("None",)
+        known = {"min": min, "max": max, "saturating_sub": lambda a, b: max(0, a - b), "div_ceil": lambda a, b: -(-a // b)}
+        return known[name](a, b)
+
+    def of_slice(self, name, of, args):
+        if name in ("len", "is_empty"):
+            return of.length if name == "len" else of.length == 0
+        if name in ("iter", "iter_mut"):
+            return of
+        if name == "copy_from_slice":
+            if args[0].length != of.length:
+                raise Wrong(f"{self.name}: {args[0].length} bytes to {of.length}")
+            of.of[of.begin : of.begin + of.length] = args[0].bytes()
+            return ()
+        if name == "copy_within":
+            begin, end, to = args[0].start, args[0].stop, args[1]
+            moved = of.part(begin, end).bytes()
+            place = of.part(to, to + end - begin)
+            of.of[place.begin : place.begin + place.length] = moved
+            return ()
+        raise Wrong(f"{self.name}: {name} of a slice")
+
+
+class Answer(ctypes.Structure):
+    _fields_ = [("status", ctypes.c_int), ("consumed", ctypes.c_size_t), ("length", ctypes.c_size_t)]
+
+
+class Decoder(ctypes.Structure):
+    _fields_ = [("written", ctypes.c_size_t), *((it, ctypes.c_ubyte) for it in ("missing", "joint", "too_long"))]
+
+
+class Encoder(ctypes.Structure):
+    _fields_ = [("index", ctypes.c_size_t), *((it, ctypes.c_ubyte) for it in ("taken", "full"))]
+
+
+STATES = {"UnbufferedDecoder": Decoder, "UnbufferedEncoder": Encoder}
+
+
+def anything(rng):
+    """Returns a few bytes, or many: random, with few or many zeros, or small numbers."""
+    length = rng.choice([rng.randrange(12), rng.randrange(40), rng.choice([15, 16, 17, 18, 33]), rng.randrange(248, 262), rng.randrange(600)])
+    kind = rng.randrange(5)
+    if rng.randrange(12) == 0:  # full blocks, and no other
+        return bytearray(1 + rng.randrange(255) for _ in range(rng.choice([254, 508])))
+    if kind == 0:
+        return bytearray(rng.randrange(256) for _ in range(length))
+    if kind == 1:
+        return bytearray(1 + rng.randrange(255) for _ in range(length))
+    if kind == 2:
+        return bytearray(rng.choice([0, 0, 1, 2, 3, 255]) for _ in range(length))
+    if kind == 3:
+        return bytearray(rng.choice([1, 2, 3, 4, 5, 9, 17, 30, 0 if rng.randrange(4) == 0 else 6]) for _ in range(length))
+    return bytearray(0 if rng.randrange(60) == 0 else 7 for _ in range(length))
+
+
+def framed(rng, message):
+    """Returns a frame of the message, or a part of one, and sometimes more bytes."""
+    out = bytearray([0])
+    code = 0
+    for byte in message:
+        if byte:
+            out.append(byte)
+        if byte == 0 or len(out) - code == 255:
+            out[code] = len(out) - code
+            code = len(out)
+            out.append(0)
+    out[code] = len(out) - code
+    after = bytearray(rng.choice([b"", b"\0", b"\0\0\x02\x07\0", b"\x05"]))
+    return bytearray(b"\0" * rng.choice([0, 0, 1, 20])) + (out[: rng.randrange(len(out) + 1)] if rng.randrange(3) == 0 else out) + after
+
+
+def state_of(rng, of, room):
+    if rng.randrange(3) == 0:
+        return [0] * len(STATES[of]._fields_)
+    number = rng.choice([0, 1, rng.randrange(room + 2), room, max(0, room - 1), 2**64 - 1])
+    return [number, *(rng.choice([0, 0, 1, 2, 253, 254, 255, rng.randrange(256)]) for _ in STATES[of]._fields_[1:])]
+
+
+class Case:
+    """The arguments of one call, for Rattle and for C."""
+
+    def __init__(self, rng, name, params):
+        message = anything(rng)
+        is_decoder = "decode" in name or name == "jcobs_frame_kind"
+        self.bytes = framed(rng, message) if is_decoder and rng.randrange(4) else message
+        sentinel = rng.choice([0, 1, 7, 255])
+        if "sentinel" in name and is_decoder:
+            self.bytes = bytearray(it ^ sentinel for it in self.bytes)
+        room = rng.choice([rng.randrange(20), len(self.bytes), len(self.bytes) + rng.randrange(4), len(self.bytes) + 20, rng.randrange(len(self.bytes) + 1)])
+        self.buffer = bytearray(rng.randrange(256) for _ in range(room))
+        if "in_place" in name and is_decoder:
+            self.buffer = bytearray(self.bytes)
+        length = len(self.buffer)
+        self.rattle, self.c, self.state, self.seen = [], [], None, []
+        for param, kind in params:
+            if kind in ("& mut [ u8 ]", "& [ u8 ]"):
+                given = self.buffer if "mut" in kind else self.bytes
+                kept = (ctypes.c_ubyte * (len(given) + 8)).from_buffer_copy(bytes(given) + b"\x5a" * 8)
+                own = bytearray(given)
+                self.seen.append((own, kept))
+                self.rattle.append(Slice(own, 0, len(own)))
+                self.c += [ctypes.cast(kept, ctypes.c_void_p), ctypes.c_size_t(len(given))]
+            elif kind.startswith("& "):
+                of = kind.split()[-1]
+                values = state_of(rng, of, length)
+                self.state = (Record(of, dict(zip([it for it, _ in STATES[of]._fields_], values))), STATES[of](*values))
+                self.rattle.append(self.state[0])
+                self.c.append(ctypes.byref(self.state[1]))
+            elif kind == "u8":
+                value = sentinel if param == "sentinel" else rng.choice([0, 1, 7, 255, rng.randrange(256)])
+                self.rattle.append(value)
+                self.c.append(ctypes.c_ubyte(value))
+            else:
+                value = rng.choice([length, length - length // 254 - 1 if length > 2 else 0, rng.randrange(length + 2), rng.randrange(600), 2**64 - 1 - rng.randrange(3), 2**64 * 254 // 255 - rng.randrange(3)])
+                self.rattle.append(value)
+                self.c.append(ctypes.c_size_t(value))
+
+    def differs(self, result, answer):
+        if isinstance(result, Record):
+            if [result.members[it] for it, _ in Answer._fields_] != [getattr(answer, it) for it, _ in Answer._fields_]:
+                return f"the result is {result.members}, and in C {[getattr(answer, it) for it, _ in Answer._fields_]}"
+        elif result != () and result != answer:
+            return f"the result is {result}, and in C {answer}"
+        if self.state and any(self.state[0].members[it] != getattr(self.state[1], it) for it in self.state[0].members):
+            return f"the state is {self.state[0].members}, and in C {[getattr(self.state[1], it) for it in self.state[0].members]}"
+        if any(bytes(own) + b"\x5a" * 8 != bytes(kept) for own, kept in self.seen):
+            return "the bytes"
+        return None
+
+
+def compiled(work, *flags):
+    target = Path(work) / f"jcobs{len(flags)}.so"
+    subprocess.run([os.environ.get("CC", "cc"), "-std=c99", "-O1", "-shared", "-fPIC", *flags, f"-I{C / 'include'}", "-o", target, SOURCE], check=True)
+    return ctypes.CDLL(str(target))
+
+
+def compared(program, library, short):
+    """Makes random calls, and yields the differences."""
+    rng, machine = random.Random(7), Machine(program, short)
+    names = [it for it in program.functions if it.startswith("jcobs_") and it not in BY_HAND]
+    for at in range(CALLS):
+        name = names[at % len(names)]
+        path, _, params, _ = program.found(name, None) if len(program.functions[name]) == 1 else (None,) * 4
+        case = Case(rng, name, params)
+        call = getattr(library, name)
+        call.restype = {"jcobs_max_length": ctypes.c_size_t, "jcobs_frame_kind": ctypes.c_uint, "jcobs_decoder_is_idle": ctypes.c_uint}.get(name, None if name.endswith("_reset") else Answer)
+        try:
+            result = machine.call(name, path, case.rattle)
+        except Wrong as what:
+            yield f"{name}, call {at}: {what}"
+            return
+        if found := case.differs(result, call(*case.c)):
+            yield f"{name}, call {at}, {'with' if short < 2**32 else 'without'} JCOBS_FAST: {found}"
+            return
+
+
+def blocks_of(tree):
+    """Yields the first words of each block, and each arm of a match."""
+    if isinstance(tree, (tuple, list)):
+        if len(tree) == 4 and tree[0] == "block":
+            yield tree[3]
+        if len(tree) == 3 and tree[0] == "match":
+            yield from (f"arm {at} {pattern}" for at, (pattern, _) in enumerate(tree[2]))
+        for it in tree:
+            yield from blocks_of(it)
 
 
 def main():
-    found = list(compared())
+    program, found = Program(), []
+    short = int(program.constants["SHORT"][0])
+    with tempfile.TemporaryDirectory() as work:
+        found += compared(program, compiled(work), 2**32)
+        found += compared(program, compiled(work, "-DJCOBS_FAST"), short)
+    if not found:
+        for path, name, _, body in program.blocks.values():
+            missing = {it for it in blocks_of(body) if (path, name, it) not in program.reached and (name, it) not in UNREACHED}
+            found += [f"{path.name}, {name}: no call reaches {it}" for it in sorted(missing)]
     for line in found:
         print(line)
     sys.exit(1 if found else 0)

@@ -224,7 +224,7 @@ static void run_encode_vec(int with_sentinel)
         expect("exactly its room", again.status == JCOBS_OK && again.length == answer.length);
         if (message.len > 0)
             memcpy(frame + JCOBS_MAX_OVERHEAD(message.len), message.data, message.len);
-        again = jcobs_encode_in_place(frame, room - 1, message.len);
+        again = jcobs_encode_in_place(frame, room - 1, JCOBS_MAX_OVERHEAD(message.len), message.len);
         expect("in place", again.status == JCOBS_OK && again.length == answer.length && again.consumed == message.len &&
                                memcmp(frame, exact, answer.length) == 0);
     }

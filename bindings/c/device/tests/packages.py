@@ -1,23 +1,19 @@
 #!/usr/bin/env python3
 """Checks the files of bindings/c/device that package managers read, and builds as the package managers would: packages.py
 
-PlatformIO and Arduino link the archive for each processor that has one, and compile src/jcobs.c for all others. ESP-IDF and
-Zephyr compile src/jcobs.c. None of these tools is run. Their scripts, the CMake file and the example for Arduino are run, with
-stand-ins for the parts of each tool that they use.
+PlatformIO, Arduino, ESP-IDF and Zephyr compile src/jcobs.c. None of these tools is run. The CMake file and the example for
+Arduino are run, with stand-ins for the parts of each tool that they use.
 """
 
 import json
 import pathlib
-import re
 import shutil
 import subprocess
 import sys
 import tempfile
 
 HERE = pathlib.Path(__file__).resolve().parent.parent
-# The processors that always have the DSP instructions of the architecture v7E-M.
-WITH_DSP = ("cortex-m4", "cortex-m7", "cortex-m55")
-NEEDED = "name version author maintainer sentence paragraph category architectures includes precompiled ldflags".split()
+NEEDED = "name version author maintainer sentence paragraph category architectures includes".split()
 # The definitions of ESP-IDF and Zephyr for the CMake file of a component or a module.
 ESP_IDF = """function(idf_component_register)
     cmake_parse_arguments(it "" "" "SRCS;INCLUDE_DIRS" ${ARGN})
@@ -52,51 +48,18 @@ int main() { setup(); loop(); }
 """
 
 
-class Environment:
-    """The part of SCons's environment that the script of library.json uses."""
-
-    def __init__(self, processor):
-        self.processor = processor
-        self.added = {}
-
-    def BoardConfig(self):
-        return {"build.cpu": self.processor}
-
-    def Append(self, **words):
-        self.added.update(words)
-
-    Replace = Append
-
-
-class Folder:
-    """The script's folder, as SCons returns it."""
-
-    abspath = str(HERE)
-
-    def srcnode(self):
-        return self
-
-
-def run_script(path, processor):
-    """Runs the script for a board with this processor. Returns the settings that it adds, and the processors that it knows."""
-    env = Environment(processor)
-    names = {"Import": lambda name: None, "env": env, "Dir": lambda name: Folder()}
-    exec(compile(path.read_text(), str(path), "exec"), names)
-    return env.added, names["CORES"]
-
-
 def check_library(folder):
     """Checks the library.json of a folder: of this folder, or of the repository, for projects that name the repository's address."""
     library = json.loads((folder / "library.json").read_text())
     build = library.pop("build")
     assert (folder / build.get("srcDir", "src")).resolve() == HERE / "src"
     assert all((folder / build["includeDir"] / header).is_file() for header in library["headers"])
-    assert (folder / build["extraScript"]).resolve() == HERE / "platformio.py" and "srcFilter" not in build
+    assert "srcFilter" not in build
     return library
 
 
 def check_manifests():
-    """Checks library.json and library.properties, and the archive or the source for each processor."""
+    """Checks library.json, library.properties and the files of ESP-IDF and Zephyr."""
     library = check_library(HERE)
     assert check_library(HERE.parents[2]) == library
     lines = (HERE / "library.properties").read_text().splitlines()
@@ -104,30 +67,10 @@ def check_manifests():
     assert list(properties) == NEEDED, sorted(properties)
     assert properties["name"] == library["name"] and properties["version"] == library["version"]
     assert f'version: "{library["version"]}"' in (HERE / "idf_component.yml").read_text()
-    assert properties["precompiled"] == "full" and properties["ldflags"] == "-ljcobs"
     assert properties["architectures"] == library["platforms"] == "*"
     assert (HERE / "src" / properties["includes"]).is_file() and (HERE / "src/jcobs.c").is_file()
     module = (HERE / "zephyr/module.yml").read_text()
     assert "kconfig: zephyr/Kconfig" in module and "config JCOBS" in (HERE / "zephyr/Kconfig").read_text()
-    script = HERE / "platformio.py"
-    _, cores = run_script(script, "cortex-m4")
-    for processor in cores:
-        added, _ = run_script(script, processor)
-        assert added["LIBS"] == ["jcobs"] and added["SRC_FILTER"] == ["-<*>"]
-        assert all((pathlib.Path(path) / "libjcobs.a").is_file() for path in added["LIBPATH"])
-    for processor in ("avr", "esp32", ""):
-        assert run_script(script, processor)[0] == {}
-    return len(cores)
-
-
-def check_instructions():
-    """Checks that each processor has the instructions of the archive that PlatformIO links for it."""
-    _, cores = run_script(HERE / "platformio.py", "")
-    for processor, folder in cores.items():
-        said = subprocess.run(["readelf", "-A", HERE / "src" / folder / "libjcobs.a"], capture_output=True, text=True, check=True)
-        architectures = set(re.findall(r"Tag_CPU_arch: (\S+)", said.stdout))
-        wanted = {"v7E-M"} if processor in WITH_DSP else set() if processor.startswith("rv") else {"v6S-M"}
-        assert architectures == wanted, f"{processor}: {architectures}"
 
 
 def run_sketch():
@@ -164,14 +107,13 @@ def built_by_cmake(words):
 
 
 def main():
-    cores = check_manifests()
-    check_instructions()
+    check_manifests()
     if shutil.which("g++"):
         run_sketch()
     if shutil.which("cmake"):
         built_by_cmake(ESP_IDF)
         built_by_cmake(ZEPHYR)
-    print(f"= archives for {cores} processors, jcobs.c for the others{'' if shutil.which('cmake') else '; no cmake'}")
+    print(f"= version {(HERE.parents[2] / 'VERSION').read_text().strip()}{'' if shutil.which('cmake') else '; no cmake'}")
 
 
 if __name__ == "__main__":

@@ -18,7 +18,7 @@ import tty
 from pathlib import Path
 
 HERE = Path(__file__).resolve().parent
-LIBRARY = HERE.parent.parent / "device/src/cortex-m4/libjcobs.a"
+LIBRARY = HERE.parent.parent
 FLAGS = """-mcpu=cortex-m4 -mthumb -Os -std=c99 -ffreestanding -Wall -Wextra -Werror -ffunction-sections
     -Wl,--gc-sections -nostdlib""".split()
 
@@ -114,8 +114,8 @@ def main():
     faults = []
     with tempfile.TemporaryDirectory() as work:
         program = f"{work}/firmware"
-        sources = [HERE / "firmware.c", HERE / "board.c", LIBRARY, "-lgcc"]
-        build = ["arm-none-eabi-gcc", *FLAGS, f"-I{HERE.parent.parent}/include", "-T", HERE / "mps2.ld", *sources]
+        sources = [HERE / "firmware.c", HERE / "board.c", LIBRARY / "source/jcobs.c", "-lgcc"]
+        build = ["arm-none-eabi-gcc", *FLAGS, f"-I{LIBRARY}/include", "-T", HERE / "mps2.ld", *sources]
         build += ["-o", program]
         subprocess.run(build, check=True)
         qemu = "qemu-system-arm -M mps2-an386 -display none -monitor none -serial pty -kernel".split() + [program]
