@@ -4,9 +4,9 @@
 usage: translate.py [TO [CRATES]]
 
 Drops the parts for the prover, such as contracts, ghost fields and laws. Replaces names of Rattle by those of Rust: names of
-modules, of vectors and of memory, because no allocator is passed in Rust. Otherwise the bodies of functions don't change, except
-for BY_TARGET, and the docs don't change, except for REWORDED. A form that the script doesn't know is an error, with its file and
-line. At the end rustfmt formats the files.
+modules, of vectors and of memory, because no allocator is passed in Rust. Replaces an index by an access that doesn't panic
+(src/access.rs). Otherwise the bodies of functions don't change, and the docs don't change, except for REWORDED. A form that the
+script doesn't know is an error, with its file and line. At the end rustfmt formats the files.
 
 tests/proved.py names the differences that are permitted.
 """
@@ -20,7 +20,6 @@ HERE = Path(__file__).resolve().parent
 # in the crate `cobs` differ. The files outside of src/proved define these items over the proved functions.
 SOURCES = {
     "cobs": ("crate::proved", ("laws.rt", "laws/", "dec/buffered.rt", "dec/heapless.rt", "enc/encoder.rt", "enc/vector.rt")),
-    "cobs_bytes": ("crate::proved::cobs_bytes", ()),
 }
 # The items of other files that are left out for the same reason. For example, `encode_frames` in src/frames.rs takes any
 # iterator of messages; the proved function takes a slice of vectors.
@@ -29,11 +28,10 @@ LEFT_OUT = set(
     " WriteBuffer encode_frames encode_frames_room write_frames".split()
 )
 PATHS = {
-    "std::simd::prelude": "crate::simd",
     "std::alloc::AllocError": "crate::memory::AllocError",
     "std::mem": "core::mem",
     "std::io::Read": "std::io::Read",
-    "memchr": "memchr",
+    "memchr": "crate::search",
 }
 # Imports that Rust doesn't need.
 DROPPED = ("std::alloc::Global", "std::marker::Model", "serde::", "thiserror::", "cobs::laws")
@@ -77,8 +75,6 @@ REWORDED = {
     " Contracts describe a reader by its decoder, and by the bytes that the reader has read but not yet fed to the decoder.": "",
     "Contracts describe a decoder by the bytes of its buffer and by its phase, that is, the facts that the decoder keeps about the"
     " piece so far. ": "",
-    "[`decode_short`](crate::decode_short)": "`decode_short`",
-    "[`len_to_zero`](crate::len_to_zero)": "`len_to_zero`",
     " The Rust crate `cobs` has no such call.": "",
     " The Rust crate `cobs` doesn't guarantee this.": "",
     " The Rust crate `cobs` has no such type.": "",
@@ -89,10 +85,11 @@ REWORDED = {
     "Precondition: [`can_push`](EncoderState::can_push) returns true. Indices count bytes from the start of the output.": "Indices count"
     " bytes from the start of the output.\n\n# Panics\n\nWith overflow checks, if [`can_push`](EncoderState::can_push) returns false.",
 }
+# Functions that keep their indices: the implementation of a trait, which isn't proved, may return a number that is too great.
+# Then these functions should panic.
+KEPT = {"FrameReader::next_frame", "frame_outcome", "decode_stream"}
 # The traits whose methods an example calls. `UnbufferedDecoder` has `feed_piece` itself.
 TRAITS = {"FrameDecoder": "feed_byte|feed_piece|buffer", "FrameSource": "read_some"}
-# Functions whose result depends on the target, and their result here. No proof depends on this result.
-BY_TARGET = {"cobs_bytes::has_vectors": {"true": "crate::simd::HAS_VECTORS"}}
 # Calls that are `const fn` in the crate `cobs`, or that such a call calls; and calls that make or copy plain values, so that
 # these values can be in a constant or a static.
 CONST = set(
@@ -103,12 +100,12 @@ CONST = set(
 INLINE = set(
     "decode_with_sentinel UnbufferedDecoder::feed_piece DecoderState::feed EncoderState::push".split()
 )
-# Functions whose attributes for inlining differ from those of the proved source. The first two decode long frames. Here a call
-# for short frames is their only caller, and it saves fewer registers if they aren't inlined; in C a separate function calls
-# them. The third one isn't inlined in the proved source, for compilers that can't see that two slices don't overlap; rustc can
-# see it.
-APART = {"decode_long", "decode_blocks_in_place"}
-INTO_CALLER = {"cobs_bytes::copy_slice"}
+# A function that isn't inlined in the proved source, for compilers that can't see that two slices don't overlap; rustc can see
+# it.
+INTO_CALLER = {"copy_slice"}
+# The constant that is greater than every length without the feature `fast`, so that no slice is searched or copied. The proofs
+# don't depend on its value.
+THRESHOLD = "SHORT"
 # Calls that have no effect except their result: a lint warns if the result isn't used.
 MUST_USE = set(
     "PieceEnd::reported DecodeReport::parsed_size DecodeReport::frame_size EncoderState::can_push EncoderState::finalize"
@@ -181,8 +178,9 @@ def doc(source, lines):
             example.append(line)
         else:
             out.append(line)
-    # A link to what another file has.
+    # A link to what another file has, and a link to what the crate doesn't export.
     text = re.sub(r"\[`(\w+)`\](?![(\[])", lambda found: linked(source, found[1]), "\n".join(out))
+    text = re.sub(r"\[(`\w+`)\]\(crate::(\w+)\)", lambda found: found[0] if found[2] in exported()[0] else found[1], text)
     text = re.sub(r"\n{3,}", "\n\n", text)
     # A paragraph, or an item of a list, about what isn't here.
     parts = re.split(r"\n(?=\n|- )", text.rstrip("\n"))
@@ -256,7 +254,7 @@ def paths(source, statement):
         path = SOURCES[root][0] + path.removeprefix(root)
     elif known := next((known for known in PATHS if path == known or path.startswith(known + "::")), None):
         path = PATHS[known] + path.removeprefix(known)
-    elif root not in source.modules and root not in ("self", "super", "by_width"):
+    elif root not in source.modules and root not in ("self", "super"):
         source.fail("no path of Rust is known for it", source.begun)
     return [f"{head}{path};"]
 
@@ -328,7 +326,7 @@ def signature(source):
         head[0] = head[0].replace("fn ", "const fn ", 1)
     source.seen.add(call)
     source.function = call
-    marks = [indent + "#[inline]"] * (call in INLINE | INTO_CALLER) + [indent + "#[inline(never)]"] * (call in APART) + [indent + "#[must_use]"] * (call in MUST_USE)
+    marks = [indent + "#[inline]"] * (call in INLINE | INTO_CALLER) + [indent + "#[must_use]"] * (call in MUST_USE)
     return marks + without_allocator("\n".join(head)).split("\n")
 
 
@@ -336,16 +334,41 @@ def code(source, line):
     """A line of a body."""
     if unknown := re.search(r"\.\w+\(alloc\b|\bVec::(?!new\(alloc\)|from_slice\(alloc, )\w+", bare(line)):
         source.fail(f"{unknown[0]} isn't known", source.at - 1)
-    line = without_label(source, without_allocator(line))
-    if instead := BY_TARGET.get(source.function, {}).get(line.strip()):
-        line = line.replace(line.strip(), instead)
-        source.seen.add(source.function + ", by target")
+    line = without_allocator(line)
+    line = without_label(source, line if source.function in KEPT else without_index(source, line))
+    if found := re.match(rf"(.*\bconst {THRESHOLD}: usize =) (\d+);$", line):
+        source.seen.add(THRESHOLD)
+        line = f'{found[1]} if cfg!(feature = "fast") {{ {found[2]} }} else {{ usize::MAX }};'
     if found := re.match(r"\s*let mut (\w+) = Vec::new\(\);", line):
         source.vectors.add(found[1])
     if (found := re.match(r"(\s*)(\w+)\.push\((.*)\)\?;$", line)) and found[2] in source.vectors:
         line = f"{found[1]}crate::memory::push(&mut {found[2]}, {found[3]})?;"
-    if found := re.search(r"[^\x00-\x7f]|\b(ghost|requires|ensures|decreases|invariant|tactic|alloc|rt|law_\d+|std|cobs_bytes|cobs)\b", bare(line)):
+    if found := re.search(r"[^\x00-\x7f]|\b(ghost|requires|ensures|decreases|invariant|tactic|alloc|rt|law_\d+|std|cobs)\b", bare(line)):
         source.fail(f"{found[0]} isn't Rust", source.at - 1)
+    return line
+
+
+def without_index(source, line):
+    """Returns a line with the calls of src/access.rs, which can't panic, in place of indices."""
+    line = line.replace(".copy_from_slice(", ".copy_from(").replace(".copy_within(", ".copy_inside(")
+    while found := list(re.finditer(r"((?:\w+\.)*\w+)\[", line.split("//")[0])):
+        front, slice_of, at = line[: found[-1].start()], found[-1][1], found[-1].end()
+        if "]" not in line[at:]:
+            source.fail("an index that doesn't end on its line", source.at - 1)
+        index, after = line[at:].split("]", 1)
+        stored = re.match(r" = (.*);$", after)
+        if ".." in index and front.endswith("&mut "):
+            line = f"{front[:-5]}{slice_of}.part_mut({index}){after}"
+        elif ".." in index and front.endswith("&"):
+            line = f"{front[:-1]}{slice_of}.part({index}){after}"
+        elif ".." in index and after.startswith(".copy_from("):
+            line = f"{front}{slice_of}.part_mut({index}){after}"
+        elif stored and not front.strip():
+            line = f"{front}{slice_of}.put({index}, {stored[1]});"
+        elif ".." in index or front.endswith(("&", "&mut ")) or re.match(r" (=|[-+*/%^&|]=|<<=|>>=) ", after):
+            source.fail("this index isn't known", source.at - 1)
+        else:
+            line = f"{front}{slice_of}.byte({index}){after}"
     return line
 
 
@@ -513,9 +536,15 @@ def header(source, text):
         children = [crate for crate in SOURCES if crate != "cobs"]
         children = "".join(f"pub(crate) mod {crate};\n" for crate in children)
         text = re.sub(r"^(?=pub\(crate\) mod )", children, text, count=1, flags=re.M)
-    if re.search(r"(?<!Array)\bVec[<:]", re.sub(r"^\s*//.*$", "", text, flags=re.M)):
-        use = '#[cfg(feature = "alloc")]\nuse alloc::vec::Vec;\n'
-        text = re.sub(r"^(?=(#\[cfg.*\n)?(pub(\(crate\))? )?(use|mod) )", use, text, count=1, flags=re.M)
+    code, use = re.sub(r"^\s*//.*$", "", text, flags=re.M), ""
+    if re.search(r"\.(byte|put|part|part_mut|copy_from|copy_inside)\(", code):
+        use += "use crate::access::Access;\n"
+    if re.search(r"(?<!Array)\bVec[<:]", code):
+        use += '#[cfg(feature = "alloc")]\nuse alloc::vec::Vec;\n'
+    # Before the other imports, or before the first item.
+    imports = re.search(r"^(#\[cfg.*\n)?(pub(\(crate\))? )?(use|mod) ", text, re.M)
+    place = imports.start() if imports else text.index("\n\n") + 2
+    text = text[:place] + use + "\n" * bool(use and not imports) + text[place:]
     return made + text
 
 
@@ -566,11 +595,8 @@ def name_of(head):
     return named and (named[1] or named[2])
 
 
-def main():
-    words = sys.argv[1:]
-    if len(words) > 2 or any(word.startswith("-") for word in words):
-        sys.exit(__doc__)
-    to, crates = map(Path, [*words, *[HERE / "src/proved", HERE / "../../crates"][len(words) :]])
+def write(to, crates):
+    """Writes the files, without a layout, and returns their paths."""
     find_left_out(crates)
     sources, written, seen = list(prepared(crates)), [], set()
     find_needing([translated(source) for source, _ in sources])
@@ -583,9 +609,18 @@ def main():
         (to / place).parent.mkdir(parents=True, exist_ok=True)
         (to / place).write_text(text)
         written.append(to / place)
-    used = set(MORE_DERIVES) | STORED | CONST | INLINE | APART | INTO_CALLER | MUST_USE | LEFT_OUT | set(REWORDED) | {f"{name}, by target" for name in BY_TARGET}
+    used = set(MORE_DERIVES) | STORED | CONST | INLINE | INTO_CALLER | MUST_USE | LEFT_OUT | KEPT | set(REWORDED) | {THRESHOLD}
     if missing := used - seen - reworded:
         raise SystemExit(f"translate.py: no source has {sorted(missing)[0]}")
+    return written
+
+
+def main():
+    words = sys.argv[1:]
+    if len(words) > 2 or any(word.startswith("-") for word in words):
+        sys.exit(__doc__)
+    to, crates = map(Path, [*words, *[HERE / "src/proved", HERE / "../../crates"][len(words) :]])
+    written = write(to, crates)
     for path in set(to.rglob("*.rs")) - set(written):
         path.unlink()
     layout = ["rustfmt", "--edition", "2021", "--config", "style_edition=2024,skip_children=true"]

@@ -132,15 +132,15 @@ version = "0.0.0"
 edition = "2024"
 [dependencies]
 cobs = { path = "../crate" }
-jcobs = { path = "$here" }
+jcobs = { path = "$here", default-features = false, features = ["std"] }
 [features]
-small = ["jcobs/small"]
+fast = ["jcobs/fast"]
 [profile.dev]
 opt-level = 2
 debug = false
 END
 cd "$work/beside"
-for feature in '' small; do
+for feature in '' fast; do
     CARGO_TARGET_DIR=$work/target cargo run -q --features "$feature" -- "${ROUNDS:-5000}" 2>errors | sed "s/\$/${feature:+, with the feature $feature}/" >said || true
     grep '^= ' said || { echo "FAILED: compared with the crate" >&2; head -c 4000 errors >&2; exit 1; }
 done

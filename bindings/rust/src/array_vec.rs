@@ -3,6 +3,8 @@
 use core::fmt;
 use core::ops::{Deref, DerefMut};
 
+use crate::access::Access;
+
 /// A vector of up to `N` bytes, for [`CobsDecoderHeapless`](crate::CobsDecoderHeapless). The vector allocates no
 /// memory.
 ///
@@ -52,13 +54,13 @@ impl<const N: usize> ArrayVec<N> {
     #[inline]
     #[must_use]
     pub fn as_slice(&self) -> &[u8] {
-        &self.bytes[..self.len]
+        self.bytes.part(..self.len)
     }
 
     /// Returns the bytes of the vector as a mutable slice.
     #[inline]
     pub fn as_mut_slice(&mut self) -> &mut [u8] {
-        &mut self.bytes[..self.len]
+        self.bytes.part_mut(..self.len)
     }
 }
 
@@ -108,7 +110,7 @@ impl<const N: usize> From<[u8; N]> for ArrayVec<N> {
 impl<const N: usize> From<heapless::Vec<u8, N>> for ArrayVec<N> {
     fn from(vec: heapless::Vec<u8, N>) -> Self {
         let mut copy = Self::new();
-        copy.bytes[..vec.len()].copy_from_slice(&vec);
+        copy.bytes.part_mut(..vec.len()).copy_from(&vec);
         copy.len = vec.len();
         copy
     }

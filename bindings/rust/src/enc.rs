@@ -15,6 +15,17 @@ impl Default for UnbufferedEncoder {
     }
 }
 
+/// Returns the length, or panics if the output doesn't fit. `Result::expect` would also write the error, and so it would
+/// add the code that formats an error to every program.
+#[inline]
+#[track_caller]
+fn fitting(encoded: Result<usize, DestBufTooSmallError>) -> usize {
+    match encoded {
+        Ok(len) => len,
+        Err(_) => panic!("the output fits `dest`"),
+    }
+}
+
 /// Writes the frame of `source`, without sentinels, to the front of `dest`, and returns the frame's length in bytes.
 /// The bytes after the frame stay as they are.
 ///
@@ -31,7 +42,7 @@ impl Default for UnbufferedEncoder {
 #[inline]
 #[track_caller]
 pub fn encode(source: &[u8], dest: &mut [u8]) -> usize {
-    try_encode(source, dest).expect("the frame fits `dest`")
+    fitting(try_encode(source, dest))
 }
 
 /// Writes the frame of `source`, without sentinels, to the front of `dest`, and returns the frame's length in bytes.
@@ -70,7 +81,7 @@ pub fn try_encode(source: &[u8], dest: &mut [u8]) -> Result<usize, DestBufTooSma
 #[inline]
 #[track_caller]
 pub fn encode_including_sentinels(source: &[u8], dest: &mut [u8]) -> usize {
-    try_encode_including_sentinels(source, dest).expect("the frame and its sentinels fit `dest`")
+    fitting(try_encode_including_sentinels(source, dest))
 }
 
 /// Writes a zero, the frame of `source`, and another zero to the front of `dest`, and returns their total length in
@@ -113,31 +124,35 @@ pub fn try_encode_including_sentinels(
 #[inline]
 #[track_caller]
 pub fn encode_with_sentinel(source: &[u8], dest: &mut [u8], sentinel: u8) -> usize {
-    try_encode_with_sentinel(source, dest, sentinel).expect("the frame fits `dest`")
+    fitting(try_encode_with_sentinel(source, dest, sentinel))
 }
 
-/// Encodes a message in its own buffer, and returns the frame's length in bytes. The message has `len` bytes. Before
-/// the call, it begins at index [`max_encoding_overhead(len)`](crate::max_encoding_overhead) of `buffer`. After the
-/// call, `buffer` begins with the frame, and the bytes after the frame are as they were. The crate `cobs` doesn't have
-/// this call.
+/// Encodes a message in its own buffer, and returns the frame's length in bytes. Before the call, the message is in the
+/// `len` bytes from index `start` of `buffer` on, behind at least
+/// [`max_encoding_overhead(len)`](crate::max_encoding_overhead) bytes for codes. After the call, `buffer` begins with
+/// the frame, and the bytes after the frame are as they were. The crate `cobs` doesn't have this call.
 ///
 /// ```
 /// let mut buffer = *b"\0hello..";
-/// assert_eq!(jcobs::encode_in_place(&mut buffer, 5), 6);
+/// assert_eq!(jcobs::encode_in_place(&mut buffer, 1, 5), 6);
 /// assert_eq!(&buffer, b"\x06hello..");
 /// ```
 ///
 /// # Panics
 ///
-/// Panics if `buffer` is shorter than [`max_encoding_length(len)`](crate::max_encoding_length).
+/// Panics if `start` is below [`max_encoding_overhead(len)`](crate::max_encoding_overhead), or if the message isn't
+/// within `buffer`.
 #[track_caller]
-pub fn encode_in_place(buffer: &mut [u8], len: usize) -> usize {
-    let room = len.checked_add(crate::max_encoding_overhead(len));
+pub fn encode_in_place(buffer: &mut [u8], start: usize, len: usize) -> usize {
     assert!(
-        room.is_some_and(|room| room <= buffer.len()),
-        "`buffer` has room for the longest frame of `len` bytes"
+        crate::max_encoding_overhead(len) <= start,
+        "`start` leaves room for the codes of `len` bytes"
     );
-    proved::encode_in_place(buffer, len)
+    assert!(
+        buffer.get(start..).is_some_and(|rest| len <= rest.len()),
+        "the message is within `buffer`"
+    );
+    proved::encode_in_place(buffer, start, len)
 }
 
 /// Encodes `source` with the given sentinel, writes the frame to the front of `dest`, and returns the frame's length in

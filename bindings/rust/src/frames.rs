@@ -3,9 +3,9 @@
 use core::iter::{self, FusedIterator};
 use core::mem;
 
+use crate::access::Access;
 use crate::dec::{DecodeError, decode_in_place};
-use crate::proved::len_to_zero;
-use crate::simd::HAS_VECTORS;
+use crate::search::memchr;
 #[cfg(feature = "alloc")]
 use crate::{enc::encode, max_encoding_length, memory, memory::AllocError};
 #[cfg(feature = "alloc")]
@@ -32,15 +32,6 @@ pub const fn frames(stream: &[u8]) -> Frames<'_> {
     Frames { rest: stream }
 }
 
-/// Returns the index of the first zero, if there is one.
-fn first_zero(bytes: &[u8]) -> Option<usize> {
-    if HAS_VECTORS {
-        return memchr::memchr(0, bytes);
-    }
-    let len = len_to_zero(bytes);
-    (len < bytes.len()).then_some(len)
-}
-
 /// An iterator over the frames of a recorded stream. [`frames`] makes it.
 #[derive(Debug, Clone)]
 #[must_use = "iterators are lazy and do nothing unless consumed"]
@@ -62,7 +53,7 @@ impl<'a> Frames<'a> {
     /// empty.
     #[inline]
     fn next_piece(&mut self) -> Option<&'a [u8]> {
-        let (piece, from_zero) = self.rest.split_at(first_zero(self.rest)?);
+        let (piece, from_zero) = self.rest.split_at_checked(memchr(0, self.rest)?)?;
         self.rest = from_zero.split_first()?.1;
         Some(piece)
     }
@@ -140,8 +131,8 @@ impl<'a> DecodeStreamInPlace<'a> {
     /// empty.
     #[inline]
     fn next_piece(&mut self) -> Option<&'a mut [u8]> {
-        let len = first_zero(self.rest)?;
-        let (piece, from_zero) = mem::take(&mut self.rest).split_at_mut(len);
+        let len = memchr(0, self.rest)?;
+        let (piece, from_zero) = mem::take(&mut self.rest).split_at_mut_checked(len)?;
         self.rest = from_zero.split_first_mut()?.1;
         Some(piece)
     }
@@ -153,7 +144,7 @@ impl<'a> Iterator for DecodeStreamInPlace<'a> {
     #[inline]
     fn next(&mut self) -> Option<Self::Item> {
         let frame = iter::from_fn(|| self.next_piece()).find(|piece| !piece.is_empty())?;
-        Some(decode_in_place(frame).map(|len| &mut frame[..len]))
+        Some(decode_in_place(frame).map(|len| frame.part_mut(..len)))
     }
 
     #[inline]

@@ -83,62 +83,54 @@
 //!
 //! # What is proved
 //!
-//! The functions of `src/proved/` are translated from the crates `cobs` and `cobs_bytes` in Rattle, which is Rust with
-//! contracts. For a `usize` of 64 bits, each of these functions is proved in Rattle to end without a panic, and to
-//! return the right result. The other files of `src/` are tested, not proved. They define the calls with the signatures
-//! of the crate `cobs`, choose the proved function that a push calls, and add the types for `std::io` and tokio. Memory
-//! safety depends on rustc, on `memchr`, and on the `unsafe` code of `src/simd.rs`. No other file of this crate has
-//! `unsafe` code. With the feature `small`, `src/simd.rs` has no `unsafe` code either.
+//! The functions of `src/proved/` are translated from the crate `cobs` in Rattle, which is Rust with contracts. For a
+//! `usize` of 64 bits, each of these functions is proved in Rattle to end without a panic, and to return the right
+//! result. The other files of `src/` are tested, not proved. They define the calls with the signatures of the crate
+//! `cobs`, and add the types for `std::io` and tokio. Memory safety depends on rustc, and with the feature `fast` on
+//! `memchr`: this crate has no `unsafe` code.
 //!
 //! # Features
 //!
-//! - `std` (default) turns on the feature `alloc`. It also turns on the feature `std` of `memchr`, so that `memchr`
-//!   uses AVX2 if the processor has AVX2. `std` also adds [`MessageReader`], [`MessageWriter`] and [`Recorded`].
-//!   `Recorded` is a [`FrameSource`] over any [`std::io::Read`].
+//! - With `fast` (default), more than 16 bytes are searched by the crate `memchr` and copied as slices. Without it the
+//!   calls step from byte to byte, which needs less flash and more time. The results are the same.
+//! - `std` (default) turns on the feature `alloc`, and adds [`MessageReader`], [`MessageWriter`] and [`Recorded`].
+//!   `Recorded` is a [`FrameSource`] over any [`std::io::Read`]. With `std`, `memchr` uses AVX2 if the processor has
+//!   it.
 //! - `alloc` adds the calls that return a `Vec`, [`encode_frames_room`], [`FrameOutcome`], and [`CobsDecoderOwned`].
-//! - With `small`, a call processes one byte at a time on every target (see "Targets"), and the crate has no `unsafe`
-//!   code.
 //! - `serde` derives the traits of the crate `serde`, and `defmt` those of the crate `defmt`. The types with these
 //!   traits are the errors ([`DecodeError`], [`DestBufTooSmallError`], [`PushError`], [`ReadFault`], [`AllocError`]),
 //!   [`DecodeReport`], [`PieceEnd`], [`Next`], [`FrameKind`] and `FrameOutcome`.
 //! - With `heapless`, [`CobsDecoderHeapless::new_with_vec`] accepts a `heapless::Vec`.
 //! - `tokio-util` turns on the feature `std`, and adds `MessageCodec`, a codec for streams and sinks of tokio.
 //!
-//! With `default-features = false`, the crate needs neither `std` nor an allocator.
-//!
-//! # Targets
-//!
-//! If the target has SSE2, WebAssembly's SIMD, or NEON on little-endian aarch64, the calls search and copy many bytes
-//! in one step. On every other target, and with the feature `small`, the calls process one byte at a time, and each
-//! call needs only a few hundred bytes of flash.
+//! With `default-features = false`, the crate needs neither `std` nor an allocator nor another crate, and each call
+//! needs a few hundred bytes of flash.
 #![no_std]
-#![cfg_attr(feature = "small", forbid(unsafe_code))]
+#![forbid(unsafe_code)]
 // With `doc_cfg` the pages of docs.rs say which feature an item needs.
 #![cfg_attr(docsrs, feature(doc_cfg))]
+// Links to what a missing feature would add stay text. With `std`, each link is checked.
+#![cfg_attr(not(feature = "std"), allow(rustdoc::broken_intra_doc_links))]
 
 #[cfg(feature = "alloc")]
 extern crate alloc;
 #[cfg(feature = "std")]
 extern crate std;
 
-#[forbid(unsafe_code)]
+mod access;
 mod array_vec;
 #[cfg(feature = "tokio-util")]
-#[forbid(unsafe_code)]
 mod codec;
-#[forbid(unsafe_code)]
 mod dec;
-#[forbid(unsafe_code)]
 mod enc;
-#[forbid(unsafe_code)]
 mod frames;
-#[forbid(unsafe_code)]
 mod memory;
 #[allow(
     unused_imports,
     reason = "mod.rs exports what the crate in Rattle exports, and without some feature not every import is used"
 )]
 #[allow(
+    clippy::absurd_extreme_comparisons,
     clippy::len_zero,
     clippy::manual_ok_err,
     clippy::manual_range_contains,
@@ -147,14 +139,11 @@ mod memory;
     clippy::needless_range_loop,
     reason = "these are the proved bodies, which aren't changed for a lint"
 )]
-#[forbid(unsafe_code)]
 mod proved;
 #[cfg(feature = "std")]
-#[forbid(unsafe_code)]
 mod read;
-mod simd;
+mod search;
 #[cfg(feature = "std")]
-#[forbid(unsafe_code)]
 mod write;
 
 pub use crate::array_vec::ArrayVec;

@@ -146,6 +146,29 @@ impl<R: BufRead> MessageReader<R> {
     }
 }
 
+/// Returns an error of the kind [`InvalidData`](ErrorKind::InvalidData) that contains the [`DecodeError`]. So a function
+/// that returns an [`io::Error`] can use `?` for a frame that is broken or too long, too:
+///
+/// ```
+/// use std::io::{self, BufRead, ErrorKind};
+/// use jcobs::MessageReader;
+///
+/// /// Returns the length of the next message.
+/// fn next_len(messages: &mut MessageReader<impl BufRead>) -> io::Result<usize> {
+///     Ok(messages.read_message()?.ok_or(ErrorKind::UnexpectedEof)??.len())
+/// }
+///
+/// let mut messages = MessageReader::new(&b"\x03hi\0\x09cut\0"[..], 256);
+/// assert_eq!(next_len(&mut messages)?, 2);
+/// assert_eq!(next_len(&mut messages).unwrap_err().kind(), ErrorKind::InvalidData);
+/// # Ok::<(), io::Error>(())
+/// ```
+impl From<DecodeError> for io::Error {
+    fn from(error: DecodeError) -> Self {
+        Self::new(ErrorKind::InvalidData, error)
+    }
+}
+
 impl<R> MessageReader<R> {
     /// Returns a reference to the source.
     #[must_use]

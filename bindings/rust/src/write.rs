@@ -5,23 +5,8 @@ use std::vec::Vec;
 
 use crate::frames::append_frame;
 
-/// The bytes that are written after a frame that was cut off. They ensure that no decoder decodes this frame to a
-/// message.
-///
-/// A single zero isn't enough, because a frame that was cut off between two blocks would be decoded as a shorter
-/// message. If the frame was cut off inside a block, at most 254 bytes of this block are missing, and the first bytes
-/// of `CLOSING` complete the block. If the frame was cut off between two blocks, the first byte of `CLOSING`, which is
-/// 1, is a block that has only its code. In both cases the next byte of `CLOSING` is the code 255. Fewer than 254 bytes
-/// come between this code and the zero, so the frame is broken.
-const CLOSING: [u8; 256] = {
-    let mut bytes = [255; 256];
-    bytes[0] = 1;
-    bytes[255] = 0;
-    bytes
-};
-
 /// Writes messages to a serial port, a socket, a file, or anything else that implements [`Write`]. For each message,
-/// the writer calls [`write_all`](Write::write_all) once, with the message's frame and the zero that ends the frame.
+/// the writer calls [`write`](Write::write) with the message's frame and the zero that ends the frame.
 ///
 /// The crate `cobs` doesn't have this type.
 ///
@@ -31,16 +16,38 @@ const CLOSING: [u8; 256] = {
 /// let mut messages = MessageWriter::new(Vec::new());
 /// messages.write_message(b"hello")?;
 /// messages.write_message(b"")?;
+/// messages.flush()?;
 /// assert_eq!(messages.into_inner(), b"\x06hello\0\x01\0");
 /// # Ok::<(), std::io::Error>(())
+/// ```
+///
+/// # Ports with a timeout, and ports that don't block
+///
+/// If the port takes only a part of a frame, the writer keeps the rest, and the next call goes on with it. So each
+/// message that the writer has taken arrives once and whole, as soon as the port takes bytes again:
+///
+/// ```
+/// use std::io::{self, ErrorKind, Write};
+/// use jcobs::MessageWriter;
+///
+/// /// Returns whether the message is on its way. If it isn't, the port is busy: call again later.
+/// fn send(messages: &mut MessageWriter<impl Write>, message: &[u8]) -> io::Result<bool> {
+///     match messages.write_message(message) {
+///         Ok(()) => Ok(true),
+///         Err(e) if matches!(e.kind(), ErrorKind::TimedOut | ErrorKind::WouldBlock) => Ok(false),
+///         Err(e) => Err(e),
+///     }
+/// }
+/// # assert!(send(&mut MessageWriter::new(Vec::new()), b"hi")?);
+/// # Ok::<(), io::Error>(())
 /// ```
 #[derive(Debug)]
 pub struct MessageWriter<W> {
     inner: W,
-    /// Holds the bytes of a write.
-    written: Vec<u8>,
-    /// Whether the last write failed. If it failed, a part of its frame may have been written.
-    failed: bool,
+    /// The frame of the last message, and its zero.
+    frame: Vec<u8>,
+    /// How many bytes of the frame are written.
+    written: usize,
 }
 
 impl<W: Write> MessageWriter<W> {
@@ -50,43 +57,56 @@ impl<W: Write> MessageWriter<W> {
     pub const fn new(inner: W) -> Self {
         Self {
             inner,
-            written: Vec::new(),
-            failed: false,
+            frame: Vec::new(),
+            written: 0,
         }
     }
 
-    /// Writes the frame of `message` and a zero. The call doesn't flush.
+    /// Takes a message, and writes its frame and a zero. The call doesn't flush the inner writer.
     ///
-    /// If the last write failed, a part of its frame may have been written. In that case this call writes 256 bytes
-    /// before the frame of `message`, so that no decoder decodes the part to a message. The receiver's decoder reports
-    /// the part as one frame that is broken, or that is too long for the decoder's buffer. The decoder reports such a
-    /// frame even if the last write wrote no byte.
+    /// Before that, the call writes the rest of the last message, if the port hasn't taken it yet. `Ok` says that the
+    /// writer has taken the message, and not that the port has taken all of its bytes: the next call, or
+    /// [`flush`](Self::flush), writes what is left, or returns the error of the port.
     ///
     /// # Errors
     ///
-    /// - Every error of [`Write::write_all`]. After such an error, it isn't known how many bytes were written. Write
-    ///   the message again.
-    /// - [`OutOfMemory`](io::ErrorKind::OutOfMemory): nothing was written.
+    /// After an error the writer hasn't taken the message, and has written no byte of it.
+    ///
+    /// - Every error of [`Write::write`] for the rest of the last message, except [`Interrupted`](ErrorKind::Interrupted).
+    ///   The writer keeps what is left of this rest.
+    /// - [`WriteZero`](ErrorKind::WriteZero): the port took no byte of the rest.
+    /// - [`OutOfMemory`](ErrorKind::OutOfMemory): there isn't enough memory for the frame.
     pub fn write_message(&mut self, message: &[u8]) -> io::Result<()> {
-        self.written.clear();
-        if self.failed {
-            self.written.try_reserve(CLOSING.len())?;
-            self.written.extend_from_slice(&CLOSING);
-        }
-        append_frame(&mut self.written, message).map_err(|_| ErrorKind::OutOfMemory)?;
-        self.failed = true;
-        self.inner.write_all(&self.written)?;
-        self.failed = false;
+        self.write_rest()?;
+        append_frame(&mut self.frame, message).map_err(|_| ErrorKind::OutOfMemory)?;
+        // The message is taken now. If the port fails, the next call meets the same port, and returns its error.
+        let _ = self.write_rest();
         Ok(())
     }
 
-    /// Flushes the inner writer.
+    /// Writes what is left of the last message, and flushes the inner writer.
     ///
     /// # Errors
     ///
-    /// The errors of [`Write::flush`].
+    /// The errors of [`write_message`](Self::write_message), and those of [`Write::flush`].
     pub fn flush(&mut self) -> io::Result<()> {
+        self.write_rest()?;
         self.inner.flush()
+    }
+
+    /// Writes what is left of the last message.
+    fn write_rest(&mut self) -> io::Result<()> {
+        while let Some(rest @ [_, ..]) = self.frame.get(self.written..) {
+            match self.inner.write(rest) {
+                Ok(0) => return Err(ErrorKind::WriteZero.into()),
+                Ok(len) => self.written += len,
+                Err(error) if error.kind() == ErrorKind::Interrupted => {}
+                Err(error) => return Err(error),
+            }
+        }
+        self.frame.clear();
+        self.written = 0;
+        Ok(())
     }
 }
 
@@ -97,14 +117,13 @@ impl<W> MessageWriter<W> {
         &self.inner
     }
 
-    /// Returns a mutable reference to the inner writer. If you write bytes directly to the inner writer, these bytes
-    /// come between two frames, unless the last [`write_message`](Self::write_message) failed. After such a failure a
-    /// decoder may take the bytes for the rest of the frame that was cut off.
+    /// Returns a mutable reference to the inner writer. Call [`flush`](Self::flush) before you write bytes directly to
+    /// the inner writer: otherwise they may come inside a frame.
     pub fn get_mut(&mut self) -> &mut W {
         &mut self.inner
     }
 
-    /// Returns the inner writer.
+    /// Returns the inner writer. What is left of the last message is lost; [`flush`](Self::flush) writes it.
     pub fn into_inner(self) -> W {
         self.inner
     }

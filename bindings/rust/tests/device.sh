@@ -3,8 +3,7 @@
 #
 # rustup's compiler has no library for these targets, so Debian's compiler builds `core` from Debian's source (packages
 # rustc-web and rust-web-src; RUST_SRC names another folder `library`). The Cortex-M4 runs the C tests of tests/device.sh of the
-# repository with the crate, which exports the calls of `jcobs.h` (device/exports.rs). speeds.py measures the tables of the
-# README.
+# repository with the crate, which exports the calls of `jcobs.h` (device/exports.rs).
 #
 # Prints a line for each part; the last line counts them.
 #
@@ -50,22 +49,22 @@ core() { # TARGET
 builds() { # TARGET
     core "$1" || return 1
     level=s
-    crate "$1" memchr "$memchr/src/lib.rs" --edition 2018 &&
-        crate "$1" jcobs "$rust/src/lib.rs" --edition 2021 --extern "memchr=$work/$1/libmemchr.rlib"
+    crate "$1" stepped "$rust/src/lib.rs" --edition 2021 && crate "$1" memchr "$memchr/src/lib.rs" --edition 2018 &&
+        crate "$1" fast "$rust/src/lib.rs" --edition 2021 --cfg 'feature="fast"' --extern "memchr=$work/$1/libmemchr.rlib"
 }
 
-# The cases whose calls the archives for devices have. The list of these calls is in tests/device.sh.
-calls=$(sed -n "s/^calls='\(.*\)'\$/\1/p" "$root/tests/device.sh")
+# The cases whose calls exports.rs has.
+calls='encode_vec|encode|try_encode|encoder|encode_frames|decode_vec|decode|decode_in_place|decode_in_place_report|frame_kind|decoder|decode_stream|max_encoding_length|max_encoding_overhead'
 awk -v calls="^($calls)\$" '$3 ~ calls' "$root"/conformance/*.txt >"$work/cases"
 c=$root/bindings/c
 tests=$c/device/tests
 
-program() { # PROGRAM SOURCE..: a C program over the crate
-    made=$1
-    shift
+program() { # LIBRARY PROGRAM SOURCE..: a C program over the crate
+    by=$1 made=$2
+    shift 2
     "$compiler" --sysroot "$work/sysroot" --target thumbv7em-none-eabi --edition 2021 --crate-type staticlib --crate-name exports \
         -C panic=abort -C opt-level=s -C target-cpu=cortex-m4 --out-dir "$work" -L "$work/thumbv7em-none-eabi" \
-        --extern "jcobs=$work/thumbv7em-none-eabi/libjcobs.rlib" "$here/exports.rs" &&
+        --extern "jcobs=$work/thumbv7em-none-eabi/lib$by.rlib" "$here/exports.rs" &&
         arm-none-eabi-gcc -mcpu=cortex-m4 -mthumb -Os -std=c99 -I"$c/include" -I"$tests" --specs=rdimon.specs \
             -T "$tests/mps2.ld" -Wl,--gc-sections "$tests/start_arm.c" "$@" "$work/libexports.a" -o "$work/$made"
 }
@@ -79,32 +78,47 @@ on_arm() { # PROGRAM ARGUMENT..
         -semihosting-config "enable=on,target=native,$arguments" -kernel "$program"
 }
 
-cases() {
-    program vectors "$c/tests/vectors.c" "$tests/absent.c" "$tests/pushed.c" &&
+cases() { # LIBRARY
+    program "$1" vectors "$c/tests/vectors.c" "$here/absent.c" "$here/pushed.c" &&
         on_arm "$work/vectors" "$work/cases" >"$work/ran"
     sed 's/^/= /' "$work/ran"
     grep -q "^$(wc -l <"$work/cases") cases run, 0 of .*, 0 failed" "$work/ran"
 }
 
 # Measures how many bytes of flash a call adds to a program for the Cortex-M4.
-size() { # CALL: the bytes of code and data of the program that makes it
+size() { # LIBRARY CALL LTO: the bytes of code and data of the program that makes it
     "$compiler" --sysroot "$work/sysroot" --target thumbv7em-none-eabi --edition 2021 --crate-type staticlib --crate-name sizes \
-        -C panic=abort -C opt-level=s -C lto=fat -C codegen-units=1 -C target-cpu=cortex-m4 --cfg "call=\"$1\"" --cap-lints allow \
-        --out-dir "$work" -L "$work/thumbv7em-none-eabi" --extern "by=$work/thumbv7em-none-eabi/libjcobs.rlib" \
+        -C panic=abort -C opt-level=s -C "lto=$3" -C codegen-units=1 -C target-cpu=cortex-m4 --cfg "call=\"$2\"" --cap-lints allow \
+        --out-dir "$work" -L "$work/thumbv7em-none-eabi" --extern "by=$work/thumbv7em-none-eabi/lib$1.rlib" \
         "$rust/tests/targets/sizes.rs" &&
         arm-none-eabi-gcc -mcpu=cortex-m4 -mthumb -nostartfiles -Wl,--gc-sections -Wl,-estart -Wl,-u,start \
             "$work/libsizes.a" -lc -o "$work/sized" 2>"$work/linked" &&
         arm-none-eabi-size "$work/sized" | awk 'NR == 2 { print $1 + $2 }'
 }
 
-sizes() {
+# Says whether nothing of the linked program panics or formats a text: a user of the call gets no panic of `core` with it.
+panics_not() { # CALL
+    if arm-none-eabi-nm -C "$work/sized" | grep 'core::\(panicking\|fmt\|slice\)::'; then
+        echo "$1 can panic"
+        return 1
+    fi
+}
+
+without_lto() {
+    for call in feed push encoder decode sentinel 'in place'; do
+        size stepped "$call" off >"$work/bytes" && panics_not "$call" || return 1
+    done
+}
+
+sizes() { # LIBRARY MOST
     found='bytes of flash'
-    none=$(size none) || { cat "$work/linked"; return 1; }
+    none=$(size "$1" none fat) || { cat "$work/linked"; return 1; }
     for call in feed push encoder decode sentinel 'in place' encode; do
-        bytes=$(size "$call") || { cat "$work/linked"; return 1; }
+        bytes=$(size "$1" "$call" fat) || { cat "$work/linked"; return 1; }
         found="$found, $call $((bytes - none))"
-        # A call handles single bytes, and may call one function of the C library.
-        [ $((bytes - none)) -le 600 ] || { echo "$call takes $((bytes - none)) bytes"; return 1; }
+        # The panic of `encode` is documented.
+        [ "$call" = encode ] || panics_not "$call" || return 1
+        [ $((bytes - none)) -le "$2" ] || { echo "$call takes $((bytes - none)) bytes"; return 1; }
     done
     echo "= $found"
 }
@@ -114,9 +128,12 @@ for target in thumbv7em-none-eabi thumbv6m-none-eabi riscv32imac-unknown-none-el
 done
 if has arm-none-eabi-gcc gcc-arm-none-eabi 'on a Cortex-M4' &&
     has /usr/lib/arm-none-eabi/include/stdio.h libnewlib-arm-none-eabi 'on a Cortex-M4'; then
-    part 'sizes' sizes
+    part 'sizes' sizes stepped 500
+    part 'no panic without LTO' without_lto
+    part 'sizes, with `fast`' sizes fast 2000
     if has qemu-system-arm qemu-system-arm 'on a Cortex-M4'; then
-        part 'the cases on a Cortex-M4' cases
+        part 'the cases on a Cortex-M4' cases stepped
+        part 'the cases on a Cortex-M4, with `fast`' cases fast
     fi
 fi
 finish

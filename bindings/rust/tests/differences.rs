@@ -72,15 +72,20 @@ fn message_in_its_own_buffer() {
             let mut buffer = vec![0xAA; start + length + 2];
             buffer[start..start + length].copy_from_slice(&message);
             let before = buffer.clone();
-            let end = encode_in_place(&mut buffer, length);
+            let end = encode_in_place(&mut buffer, start, length);
             assert_eq!(buffer[..end], encode_vec(&message));
             assert_eq!(buffer[end..], before[end..]);
         }
     }
-    for (room, length) in [(6, 6), (0, 0), (256, 255), (6, usize::MAX)] {
-        let caught = panic::catch_unwind(|| encode_in_place(&mut vec![0; room], length));
+    for (room, start, length) in [(6, 0, 5), (0, 0, 0), (256, 1, 255), (6, 6, usize::MAX)] {
+        let caught = panic::catch_unwind(|| encode_in_place(&mut vec![0; room], start, length));
         let said = *caught.unwrap_err().downcast::<&str>().unwrap();
-        assert!(said.starts_with("`buffer` has room"), "{said}");
+        assert!(said.starts_with("`start` leaves room"), "{said}");
+    }
+    for (room, start, length) in [(6, 1, 6), (0, 1, 0), (6, 7, 0), (6, usize::MAX, 1)] {
+        let caught = panic::catch_unwind(|| encode_in_place(&mut vec![0; room], start, length));
+        let said = *caught.unwrap_err().downcast::<&str>().unwrap();
+        assert!(said.starts_with("the message is within"), "{said}");
     }
 }
 

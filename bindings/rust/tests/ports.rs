@@ -227,29 +227,44 @@ fn a_message_of_the_greatest_length_fits() {
     }
 }
 
-/// A sink that fails after each of these numbers of bytes, and counts the calls.
-#[derive(Default)]
+/// A sink that takes at most so many bytes in a write, fails after each of these numbers of bytes, and counts the
+/// calls.
 struct Sink {
     taken: Vec<u8>,
+    most: usize,
     before_errors: VecDeque<usize>,
+    error: ErrorKind,
     calls: usize,
+}
+
+impl Sink {
+    fn new(most: usize, before_errors: &[usize], error: ErrorKind) -> Self {
+        Self {
+            taken: Vec::new(),
+            most,
+            before_errors: before_errors.iter().copied().collect(),
+            error,
+            calls: 0,
+        }
+    }
 }
 
 impl Write for Sink {
     fn write(&mut self, bytes: &[u8]) -> io::Result<usize> {
         self.calls += 1;
-        let len = match self.before_errors.front_mut() {
+        assert!(self.calls < 5000, "the writer doesn't end");
+        let mut len = bytes.len().min(self.most);
+        match self.before_errors.front_mut() {
             Some(0) => {
                 self.before_errors.pop_front();
-                return Err(ErrorKind::TimedOut.into());
+                return Err(self.error.into());
             }
             Some(left) => {
-                let len = bytes.len().min(*left);
+                len = len.min(*left);
                 *left -= len;
-                len
             }
-            None => bytes.len(),
-        };
+            None => {}
+        }
         self.taken.extend(&bytes[..len]);
         Ok(len)
     }
@@ -264,7 +279,7 @@ const MESSAGES: [&[u8]; 5] = [b"hello", b"", &[7; 600], b"a\0b", b"\0\0"];
 
 #[test]
 fn each_message_is_one_write() {
-    let mut messages = MessageWriter::new(Sink::default());
+    let mut messages = MessageWriter::new(Sink::new(usize::MAX, &[], ErrorKind::Other));
     let mut expected = Vec::new();
     for (before, message) in MESSAGES.into_iter().enumerate() {
         messages.write_message(message).unwrap();
@@ -279,61 +294,74 @@ fn each_message_is_one_write() {
     assert_eq!(sink.taken, expected);
 }
 
-/// Wherever a write fails, and also if the next write fails, the receiver gets at most one broken frame, and then the
-/// next message.
+/// Whatever the port takes in a write, and wherever it fails: each message that the writer takes arrives once, and
+/// whole.
 #[test]
-fn no_message_comes_of_a_write_that_failed() {
-    for message in MESSAGES {
-        let whole = jcobs::encode_vec(message).len();
-        for first in 0..=whole {
-            for second in [
-                None,
-                Some(0),
-                Some(1),
-                Some(2),
-                Some(128),
-                Some(255),
-                Some(256),
-            ] {
-                check_writes(
-                    message,
-                    [Some(first), second].into_iter().flatten().collect(),
-                );
+fn each_message_arrives_once() {
+    for error in [
+        ErrorKind::WouldBlock,
+        ErrorKind::TimedOut,
+        ErrorKind::Interrupted,
+    ] {
+        for message in MESSAGES {
+            let whole = jcobs::encode_vec(message).len();
+            for first in 0..=whole + 1 {
+                for second in [None, Some(0), Some(1), Some(2), Some(255)] {
+                    let errors: Vec<_> = [Some(first), second].into_iter().flatten().collect();
+                    for most in [1, 2, 7, 255, usize::MAX] {
+                        check_writes(message, Sink::new(most, &errors, error));
+                    }
+                }
             }
         }
     }
 }
 
-fn check_writes(message: &[u8], before_errors: VecDeque<usize>) {
-    let failures = before_errors.len();
-    let place = format!("{} bytes, {before_errors:?}", message.len());
-    let mut messages = MessageWriter::new(Sink {
-        before_errors,
-        ..Sink::default()
-    });
-    while !messages.get_ref().before_errors.is_empty() {
-        let error = messages.write_message(message).unwrap_err();
-        assert_eq!(error.kind(), ErrorKind::TimedOut);
+/// Repeats a call until the port is ready, as a program does. Returns the number of calls.
+fn until_ready(mut call: impl FnMut() -> io::Result<()>) -> usize {
+    let mut calls = 1;
+    while let Err(error) = call() {
+        assert!(
+            [ErrorKind::WouldBlock, ErrorKind::TimedOut].contains(&error.kind()),
+            "{error}"
+        );
+        calls += 1;
+        assert!(calls <= 3);
     }
-    messages.write_message(message).unwrap();
-    messages.write_message(b"more").unwrap();
-    let stream = messages.into_inner().taken;
-    let mut received = MessageReader::new(&stream[..], 600);
-    let mut errors = 0;
-    let first = loop {
-        match received.read_message().unwrap().unwrap() {
-            Ok(first) => break first.to_vec(),
-            Err(_) => errors += 1,
+    calls
+}
+
+fn check_writes(message: &[u8], sink: Sink) {
+    let place = format!("{} bytes, {:?}", message.len(), sink.before_errors);
+    let mut messages = MessageWriter::new(sink);
+    let mut expected = Vec::new();
+    for each in [message, b"", message, b"more"] {
+        until_ready(|| messages.write_message(each));
+        expected.extend(jcobs::encode_vec(each));
+        expected.push(0);
+        assert!(expected.starts_with(&messages.get_ref().taken), "{place}");
+    }
+    until_ready(|| messages.flush());
+    assert_eq!(messages.into_inner().taken, expected, "{place}");
+}
+
+/// A port that is gone: the writer takes one message, and returns the error from then on.
+#[test]
+fn a_port_that_fails_is_reported() {
+    let failures = [0; 5];
+    let mut messages = MessageWriter::new(Sink::new(9, &failures, ErrorKind::BrokenPipe));
+    messages.write_message(b"hi").unwrap();
+    for _ in 0..2 {
+        let errors = [messages.write_message(b"more"), messages.flush()];
+        for error in errors {
+            assert_eq!(error.unwrap_err().kind(), ErrorKind::BrokenPipe);
         }
-    };
-    assert_eq!(first, message, "{place}");
-    assert!(errors <= failures, "{place}");
-    assert_eq!(
-        received.read_message().unwrap(),
-        Some(Ok(&b"more"[..])),
-        "{place}"
-    );
-    assert_eq!(received.read_message().unwrap(), None);
+    }
+    messages.write_message(b"more").unwrap();
+    assert_eq!(messages.into_inner().taken, b"\x03hi\0\x05more\0");
+    let mut messages = MessageWriter::new(Sink::new(0, &[], ErrorKind::Other));
+    messages.write_message(b"hi").unwrap();
+    assert_eq!(messages.flush().unwrap_err().kind(), ErrorKind::WriteZero);
 }
 
 /// The nonempty pieces of a stream that a zero ends.
@@ -502,5 +530,20 @@ fn a_call_reads_65536_times() {
             (reader.next_frame(&mut source), source.reads),
             (message, zero)
         );
+    }
+}
+
+#[test]
+fn a_dropped_frame_is_invalid_data() {
+    let mut messages = MessageReader::new(&b"\x09cut\0\x06hello\0"[..], 4);
+    for dropped in [
+        DecodeError::InvalidFrame { decoded_bytes: 3 },
+        DecodeError::TargetBufTooSmall,
+    ] {
+        let found = messages.read_message().unwrap().unwrap().unwrap_err();
+        assert_eq!(found, dropped);
+        let error = Error::from(found);
+        assert_eq!(error.kind(), ErrorKind::InvalidData);
+        assert_eq!(error.downcast::<DecodeError>().unwrap(), dropped);
     }
 }

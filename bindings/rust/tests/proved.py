@@ -3,21 +3,23 @@
 
 usage: tests/proved.py [CRATES [PROVED]]
 
-1. translate.py writes the folder again, and the bytes are compared (skipped without rustfmt).
+1. translate.py writes the folder again, and everything but the layout is compared, comments and attributes too. rustfmt isn't
+   needed: `cargo fmt --check` compares the layout.
 2. Code that shares nothing with translate.py cuts each source without its contracts, and each file of src/proved/, into tokens,
    and compares the tokens one by one. PERMITTED, ATTRIBUTES, CONST and PATHS contain all differences that are permitted.
 
 It prints the differences. If there is one, the status is 1.
 """
-import filecmp
 import re
-import shutil
-import subprocess
 import sys
 import tempfile
 from pathlib import Path
 
 RUST = Path(__file__).resolve().parent.parent
+sys.path.insert(0, str(RUST))
+sys.dont_write_bytecode = True
+import translate  # noqa: E402
+
 CRATES = Path(sys.argv[1] if len(sys.argv) > 1 else RUST / "../../crates").resolve()
 PROVED = Path(sys.argv[2] if len(sys.argv) > 2 else RUST / "src/proved").resolve()
 
@@ -30,14 +32,14 @@ ITEMS_LEFT_OUT = dict.fromkeys(
     "encode_with_sentinel encode_including_sentinels decode_vec decode_vec_with_sentinel DecodeVecError DecodingResult"
     " WriteBuffer encode_frames encode_frames_room write_frames".split()
 )
-# Tokens of a source, and the tokens that replace them here: no allocator is passed, and the target decides whether vectors are
-# used. Without vectors, the other branch of the code has the same result.
+# Tokens of a source, and the tokens that replace them here: no allocator is passed, and without the feature `fast` no length is
+# above the threshold.
 PERMITTED = [
     (r" law_\d+ \( \) ;", ""),
     (r" alloc : Global ,?", ""),
     (r" Vec :: from_slice \( alloc ,", " crate :: memory :: copied ("),
-    (r" fn has_vectors \( \) -> bool { true }", " fn has_vectors ( ) -> bool { crate :: simd :: HAS_VECTORS }"),
     (r" \( alloc ([,)])", lambda found: " ( )" if found[1] == ")" else " ("),
+    (r" const SHORT : usize = (\d+) ;", r' const SHORT : usize = if cfg ! ( feature = "fast" ) { \1 } else { usize :: MAX } ;'),
 ]
 # A loop here has a label only if its body names it. In a source every loop may have a label for the proofs.
 # A vector that a function makes, to which it adds items.
@@ -51,10 +53,9 @@ ATTRIBUTES = re.compile(
 )
 # Paths of the sources, and the paths that replace them here.
 PATHS = [
-    ("std::simd::prelude", "crate::simd"),
     ("std::alloc::AllocError", "crate::memory::AllocError"),
     ("std::mem", "core::mem"),
-    ("cobs_bytes", "crate::proved::cobs_bytes"),
+    ("memchr", "crate::search"),
     ("cobs", "crate::proved"),
 ]
 # Imports that only proofs and derives use. Other imports are dropped if the file doesn't use them.
@@ -144,7 +145,8 @@ def canonical(kept, is_source):
         for name in re.findall(VECTOR, text):
             text = re.sub(rf" {name} \. push \( (.*?) \) \? ;", rf" crate :: memory :: push ( & mut {name} , \1 ) ? ;", text)
     text = text.replace(" const fn ", " fn ") if not is_source else text
-    return re.sub(r" ,(?= [)\]}])", "", f" {' '.join(unwrapped(text.split()))} ").split()
+    words = re.sub(r" ,(?= [)\]}])", "", f" {' '.join(unwrapped(text.split()))} ").split()
+    return words if is_source else indexed(words)
 
 
 def without_labels(words):
@@ -175,6 +177,55 @@ def unwrapped(words):
     return out
 
 
+def indexed(words):
+    """Returns the tokens with an index in place of each access of src/access.rs."""
+    out, at = [], 0
+    while at < len(words):
+        out.append(words[at])
+        at += 1
+        if out[-1] not in ACCESSES or out[-2:-1] != ["."] or words[at] != "(":
+            continue
+        access, end = out.pop(), past(words, at, "(", ")")
+        inside, at = indexed(words[at + 1 : end - 1]), end
+        if access in ("copy_from", "copy_inside"):
+            out += [ACCESSES[access], "(", *inside, ")"]
+            continue
+        out.pop()
+        begun = len(out) - 1
+        while out[begun - 1] == ".":
+            begun -= 2
+        is_target = words[at : at + 2] == [".", "copy_from"]
+        out[begun:begun] = [] if is_target else ACCESSES[access].split()
+        comma = top_comma(inside) if access == "put" else len(inside)
+        out += ["[", *inside[:comma], "]", *(["="] if access == "put" else []), *inside[comma + 1 :]]
+    return out
+
+
+# The accesses of src/access.rs, and what the source has before the slice, or as the name of the call.
+ACCESSES = {"byte": "", "put": "", "part": "&", "part_mut": "& mut", "copy_from": "copy_from_slice", "copy_inside": "copy_within"}
+
+
+# The files that keep indices, because a trait's implementation, which isn't proved, may return a wrong number.
+KEPT = ("framed.rs", "stream.rs")
+
+
+def top_comma(words):
+    """Returns the index of the first comma that is in no brackets."""
+    depth = 0
+    for at, word in enumerate(words):
+        depth += (word in "([{") - (word in ")]}")
+        if word == "," and depth == 0:
+            return at
+    return len(words)
+
+
+def indices(words):
+    """Yields what stands before each index."""
+    for before, word in zip(words, words[1:]):
+        if word == "[" and re.fullmatch(r"[\w)\]]+", before) and before not in ("mut", "in", "return", "else"):
+            yield before
+
+
 def here(path, crate):
     """Returns the path here for a path of a source."""
     own = "crate::proved" + ("" if crate == "cobs" else f"::{crate}")
@@ -201,8 +252,9 @@ def differences(source, crate, made):
             yield f"{name}: after '{near}' the source has '{' '.join(wanted[at : at + 6])}', and here is '{' '.join(got[at : at + 6])}'"
             break
     yield from (f"{name}: {text} isn't permitted" for text in attributes if not ATTRIBUTES.fullmatch(text))
+    yield from (f"{name}: an index of {before}, which could panic" for before in indices(found) if name.as_posix() not in KEPT)
     mapped = {here(path, crate) for path in imports if not NOT_IMPORTED.match(path)}
-    yield from (f"{name}: it imports {path}" for path in set(imported) - mapped - {"alloc::vec::Vec"})
+    yield from (f"{name}: it imports {path}" for path in set(imported) - mapped - {"alloc::vec::Vec", "crate::access::Access"})
     missing = {path for path in mapped - set(imported) if path.split("::")[-1] in found}
     yield from (f"{name}: it doesn't import {path}" for path in missing)
     folder = source.parent if source.stem == "lib" else source.with_suffix("")
@@ -214,7 +266,7 @@ def differences(source, crate, made):
 def compared():
     """Yields the differences between the tokens of the sources and of the folder."""
     made, const = set(), []
-    for crate in ("cobs", "cobs_bytes"):
+    for crate in ("cobs",):
         for source in sorted((CRATES / crate / "src").rglob("*.rt")):
             place = source.relative_to(CRATES / crate / "src").with_suffix(".rs")
             place = place.with_name("mod.rs") if str(place) == "lib.rs" else place
@@ -230,24 +282,50 @@ def compared():
         yield f"const are {sorted(const)}, and not {CONST}"
 
 
+def texts(path):
+    """Returns what a file has whatever its layout is, with comments; and its imports and modules, which rustfmt sorts."""
+    words = unwrapped([found[0] for found in TOKEN.finditer(path.read_text()) if found[0].strip()])
+    words = [word for word, after in zip(words, [*words[1:], ""]) if word != "," or after not in (")", "]", "}")]
+    kept, are_sorted = [], []
+    for statement in statements(words):
+        comments = [word for word in statement if word.startswith("//")]
+        code = " ".join(word for word in statement if not word.startswith("//"))
+        if re.search(r"(^|[)\]] |pub )(use|mod) [^{]*({.*} )?;$", code):
+            are_sorted.append(code)
+            kept += comments
+        else:
+            kept += statement
+    return [word.strip() for word in kept], sorted(are_sorted)
+
+
+def statements(words):
+    """Yields the words up to each end of an item, with what stands before the item."""
+    begun, depth = 0, 0
+    for at, word in enumerate(words):
+        depth += (word in ("{", "(", "[")) - (word in ("}", ")", "]"))
+        if depth == 0 and word in (";", "}"):
+            yield words[begun : at + 1]
+            begun = at + 1
+    yield words[begun:]
+
+
 def again():
     """Yields the differences from a new translation."""
     with tempfile.TemporaryDirectory() as folder:
-        run = subprocess.run([sys.executable, RUST / "translate.py", folder, CRATES], capture_output=True, text=True)
-        if run.returncode:
-            yield run.stderr.strip()
+        try:
+            translate.write(Path(folder), CRATES)
+        except SystemExit as failed:
+            yield str(failed)
             return
         names = {path.relative_to(root) for root in (Path(folder), PROVED) for path in root.rglob("*.rs")}
-        _, differing, missing = filecmp.cmpfiles(folder, PROVED, map(str, sorted(names)), shallow=False)
-        yield from (f"{name}: translate.py writes it otherwise" for name in [*differing, *missing])
+        for name in sorted(names):
+            files = [root / name for root in (Path(folder), PROVED)]
+            if not all(path.exists() for path in files) or texts(files[0]) != texts(files[1]):
+                yield f"{name}: translate.py writes it otherwise"
 
 
 def main():
-    found = list(compared())
-    if shutil.which("rustfmt"):
-        found += again()
-    else:
-        print("skipped: the translation again: needs rustfmt")
+    found = [*compared(), *again()]
     for line in found:
         print(line)
     sys.exit(1 if found else 0)

@@ -41,8 +41,8 @@ units() { # FEATURES..: the library and its tests, with overflow checks, and war
     RUSTFLAGS='-D warnings' cargo test --lib --tests "$@"
 }
 
-documentation() {
-    RUSTDOCFLAGS='-D warnings' cargo doc --no-deps --features "$1"
+documentation() { # FLAG..
+    RUSTDOCFLAGS='-D warnings' cargo doc --no-deps "$@"
 }
 
 # Builds the documentation with the compiler's features that docs.rs enables.
@@ -137,11 +137,11 @@ oldest() {
 part 'units, signatures, differences and cases' units
 part 'every step, and every string of six tokens' cargo test --release --test steps
 part 'every run, room and cut' cargo test --release --test model
-part 'without a feature' units --no-default-features
-# Tests the code for a target without vectors, such as a Cortex-M4.
-part 'byte by byte' units --features small
-part 'byte by byte, without an allocator' units --no-default-features --features small
-part 'byte by byte, every step, run, room and cut' cargo test --release --test steps --test model --features small
+part 'without an allocator' units --no-default-features --features fast
+# Without the feature `fast`.
+part 'byte by byte' units --no-default-features --features std
+part 'byte by byte, without an allocator' units --no-default-features
+part 'byte by byte, every step, run, room and cut' cargo test --release --test steps --test model --no-default-features
 part 'serde, defmt and heapless' features
 part 'a crate that depends on cobs' dependents
 part 'an example over embedded-io' example embedded-io '4 frames' \
@@ -156,7 +156,8 @@ else
 fi
 part 'examples of the documentation' cargo test --doc
 part 'those without a feature' cargo test --doc --no-default-features
-part 'documentation' documentation std,serde,heapless
+part 'documentation' documentation --features std,serde,heapless
+part 'documentation without a feature' documentation --no-default-features
 if [ -f "$root/bindings/c/prebuilt/$(uname -m)-linux/libjcobs.a" ]; then
     part 'the library for C, by the declarations of the README' by_extern
     part 'the library for C beside the crate' beside_c
@@ -171,7 +172,7 @@ else
 fi
 if cargo clippy --version >/dev/null 2>&1; then
     part 'clippy' cargo clippy --all-targets -- -D warnings
-    part 'clippy, byte by byte' cargo clippy --features small -- -D warnings
+    part 'clippy, byte by byte' cargo clippy --no-default-features --features std -- -D warnings
     part 'nothing is newer than Rust 1.83' oldest
 else
     skip 'clippy' 'needs clippy'

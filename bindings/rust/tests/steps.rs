@@ -271,7 +271,10 @@ fn check_message(message: &[u8], sentinel: u8) {
     let overhead = jcobs::max_encoding_overhead(message.len());
     let mut buffer = [&vec![FILL; overhead][..], message, &[FILL; 2]].concat();
     let rest = buffer[length..].to_vec();
-    assert_eq!(jcobs::encode_in_place(&mut buffer, message.len()), length);
+    assert_eq!(
+        jcobs::encode_in_place(&mut buffer, overhead, message.len()),
+        length
+    );
     assert_eq!(buffer, [frame, rest].concat(), "{message:?} in place");
 }
 

@@ -1,12 +1,12 @@
 #!/bin/sh
 # Runs the crate's tests as programs for other targets: targets.sh [TARGET..] [-- FLAG..]
 #
-# The script runs the package's tests and the cases of conformance/ for i686, and with qemu-user for aarch64 (NEON), armv7 and
-# s390x (big-endian). It runs random messages and streams for wasm32 in Node, with SIMD and without (wasm/). Each target needs a
-# compiler that has the target's library: rustup's, Debian's /usr/bin/rustc, or the compiler that RUSTC names. debian-rustc.sh
-# unpacks a compiler for the first four targets. For wasm32, Debian's lld and the `core` that speeds.py has built are enough. If
-# a tool for a target is missing, the script prints the target's name and skips it. On targets with SIMD the feature `small` is
-# tested too; on the other targets it changes nothing. FLAG.. choose tests, as for cargo test: targets.sh s390x -- --test model
+# The script runs the package's tests and the cases of conformance/ for i686, and with qemu-user for aarch64, armv7 and s390x
+# (big-endian). It runs random messages and streams for wasm32 in Node (wasm/). Each target is tested with the feature `fast` and
+# without it. Each target needs a compiler that has the target's library: rustup's, Debian's /usr/bin/rustc, or the compiler that
+# RUSTC names. debian-rustc.sh unpacks a compiler for the first four targets. For wasm32, Debian's lld and the `core` that
+# bench/run.sh has built are enough. If a tool for a target is missing, the script prints the target's name and skips it. FLAG..
+# choose tests, as for cargo test: targets.sh s390x -- --test model
 #
 # Prints a line for each part; the last line counts them. run.sh doesn't run this script, which takes about ten minutes for each
 # target.
@@ -47,16 +47,15 @@ tests() { # NAME TARGET LINKER RUNNER
     in_cargo=$(echo "$2" | tr 'a-z-' 'A-Z_')
     export "CARGO_TARGET_${in_cargo}_LINKER=$3" "CARGO_TARGET_${in_cargo}_RUNNER=$4" "RUSTC=$compiler"
     export "CARGO_TARGET_DIR=$work/target" CARGO_PROFILE_TEST_OPT_LEVEL=1
-    cargo test --target "$2" $flags || return 1
-    case $1 in aarch64 | i686) cargo test --target "$2" $flags --features small ;; esac
+    cargo test --target "$2" $flags && cargo test --target "$2" $flags --no-default-features --features std
 }
 
-# A compiler for which speeds.py has built `core`.
+# A compiler for which bench/run.sh has built `core`.
 with_built_core() {
     command -v wasm-ld >/dev/null || return 1
     for maker in "$given" /usr/bin/rustc; do
         version=$("$maker" --version 2>/dev/null | cut -d ' ' -f 2)
-        built=$rust/target/sysroot-$version/wasm32/lib/rustlib/wasm32-unknown-unknown
+        built=$root/bench/out/sysroot-$version/lib/rustlib/wasm32-unknown-unknown
         if [ -z "$version" ] || [ ! -d "$built" ]; then continue; fi
         mkdir -p "$work/sysroot/lib/rustlib" &&
             ln -s "$("$maker" --print sysroot)"/lib/rustlib/* "$built" "$work/sysroot/lib/rustlib" &&
@@ -73,8 +72,8 @@ in_node() { # NAME FLAG..
     shift
     export "RUSTC=$compiler"
     [ "$compiler" != "$work/rustc" ] || export CARGO_TARGET_WASM32_UNKNOWN_UNKNOWN_LINKER=wasm-ld
-    RUSTFLAGS="$*" CARGO_TARGET_DIR=$work/$called cargo build --release --target wasm32-unknown-unknown \
-        --manifest-path tests/wasm/Cargo.toml &&
+    CARGO_TARGET_DIR=$work/$called cargo build --release --target wasm32-unknown-unknown \
+        --manifest-path tests/wasm/Cargo.toml "$@" &&
         node tests/wasm/run.mjs "$work/$called/wasm32-unknown-unknown/release/jcobs_in_node.wasm" >"$work/in-node" &&
         sed 's/^/= /' "$work/in-node"
 }
@@ -82,10 +81,10 @@ in_node() { # NAME FLAG..
 each_linux tests $chosen
 case " $chosen " in *' wasm32 '*)
     if ! compiler=$(compiler_for wasm32-unknown-unknown) && ! compiler=$(with_built_core); then
-        skip 'on wasm32' 'needs rustup target add wasm32-unknown-unknown, or the core of tests/speeds.py CRATE wasm32 and lld'
+        skip 'on wasm32' 'needs rustup target add wasm32-unknown-unknown, or the core that bench/run.sh wasm32 builds, and lld'
     elif has node nodejs 'on wasm32'; then
-        part 'on wasm32' in_node plain -C target-feature=-simd128
-        part 'on wasm32, with SIMD' in_node simd -C target-feature=+simd128
+        part 'on wasm32' in_node fast --features fast
+        part 'on wasm32, byte by byte' in_node stepped
     fi
     ;;
 esac

@@ -435,8 +435,10 @@ fn events(decoder: &mut dyn Streaming, pieces: &[&str], by_pushes: bool) -> Word
             } else {
                 decoder.feed(*first)
             };
-            taken += decoder.parsed_size();
-            rest = &rest[decoder.parsed_size()..];
+            let parsed = decoder.parsed_size();
+            assert_ne!(parsed, 0, "a call with bytes takes at least one");
+            taken += parsed;
+            rest = &rest[parsed..];
             let (status, length) = match returned {
                 Ok(None) => continue,
                 Ok(Some(length)) => ("message", length),
@@ -485,6 +487,7 @@ fn by_pushes(room: usize, pieces: &[&str]) -> Words {
         while !rest.is_empty() {
             let returned = decoder.push(rest);
             let (taken, behind) = rest.split_at(decoder.parsed_size());
+            assert_ne!(taken, [], "a push of bytes takes at least one");
             rest = behind;
             match returned {
                 Ok(Some(report)) => words.extend([
@@ -539,7 +542,8 @@ fn next_frame(room: usize, reads: &[&str]) -> Words {
         made: 0,
     };
     let mut words = Vec::new();
-    loop {
+    // No case has more results.
+    for _ in 0..100 {
         source.made = 0;
         let next = reader.next_frame(&mut source);
         let (name, argument) = match next {
@@ -558,6 +562,7 @@ fn next_frame(room: usize, reads: &[&str]) -> Words {
             return words;
         }
     }
+    panic!("the reader doesn't come to the end of its source");
 }
 
 fn states(call: &str, arguments: &[&str]) -> Option<Words> {

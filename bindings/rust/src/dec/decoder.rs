@@ -3,8 +3,8 @@
 //! The three decoders differ in who owns the buffer.
 
 use crate::ArrayVec;
+use crate::access::Access;
 use crate::dec::{DecodeError, DecodeReport, FrameDecoder, PieceEnd, UnbufferedDecoder};
-use crate::simd::HAS_VECTORS;
 
 /// The part that the three decoders have in common: everything except the buffer.
 #[derive(Debug, Clone)]
@@ -20,28 +20,8 @@ impl Progress {
         parsed_size: 0,
     };
 
-    // This function is inlined, so that a loop that pushes one byte at a time becomes a loop that calls `feed`.
-    #[inline(always)]
-    fn push(&mut self, dest: &mut [u8], data: &[u8]) -> Result<Option<DecodeReport>, DecodeError> {
-        match *data {
-            [byte] if HAS_VECTORS => {
-                let length = self.feed(dest, byte)?;
-                Ok(length.map(|frame_size| DecodeReport {
-                    parsed_size: 1,
-                    frame_size,
-                }))
-            }
-            _ => self.push_more(dest, data),
-        }
-    }
-
-    /// Decodes `data` as `push` does, but has no separate case for a single byte.
     #[inline]
-    fn push_more(
-        &mut self,
-        dest: &mut [u8],
-        data: &[u8],
-    ) -> Result<Option<DecodeReport>, DecodeError> {
+    fn push(&mut self, dest: &mut [u8], data: &[u8]) -> Result<Option<DecodeReport>, DecodeError> {
         let ended = self.decoder.feed_piece(dest, data);
         self.parsed_size = ended.map_or(data.len(), |(_, taken)| taken);
         match ended {
@@ -239,7 +219,8 @@ impl<const N: usize> CobsDecoderHeapless<N> {
     pub fn new_with_vec(vec: impl Into<ArrayVec<N>>) -> Self {
         let vec = vec.into();
         let mut decoder = Self::new();
-        decoder.dest[..vec.as_slice().len()].copy_from_slice(vec.as_slice());
+        let bytes = vec.as_slice();
+        decoder.dest.part_mut(..bytes.len()).copy_from(bytes);
         decoder
     }
 

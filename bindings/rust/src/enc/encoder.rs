@@ -2,7 +2,6 @@
 
 use crate::enc::DestBufTooSmallError;
 use crate::proved::UnbufferedEncoder;
-use crate::proved::enc::blocks::close;
 
 /// Encodes a message that comes in chunks, and writes its frame to a slice.
 ///
@@ -50,10 +49,7 @@ impl<'a> CobsEncoder<'a> {
     /// first push. The length is 0 only if the slice is empty.
     #[inline]
     #[must_use]
-    pub fn finalize(self) -> usize {
-        if self.dest.is_empty() {
-            return 0;
-        }
-        close(self.dest, &self.encoder)
+    pub fn finalize(mut self) -> usize {
+        self.encoder.finalize(self.dest).unwrap_or(0)
     }
 }

@@ -2,29 +2,28 @@
 //! Consistent Overhead Byte Stuffing (COBS), with calls modelled on those of the Rust crate `cobs` 0.5.1.
 
 pub(crate) mod block;
-pub(crate) mod cobs_bytes;
 pub(crate) mod dec;
 pub(crate) mod enc;
 pub(crate) mod error;
 pub(crate) mod find;
 pub(crate) mod framed;
+pub(crate) mod lanes;
 pub(crate) mod stream;
 
 pub use dec::{
     DecodeResult, DecoderState, FrameDecoder, FrameKind, PieceEnd, UnbufferedDecoder, decode,
-    decode_blocks_each, decode_in_place, decode_in_place_report, decode_in_place_with_sentinel,
-    decode_piece, decode_short, decode_short_in_place, decode_with_sentinel, frame_kind,
-    kind_by_blocks,
+    decode_first, decode_in_place, decode_in_place_report, decode_in_place_with_sentinel,
+    decode_with_sentinel, frame_kind,
 };
 pub use enc::{
     EncoderState, PushResult, UnbufferedEncoder, encode, encode_in_place, try_encode,
-    try_encode_each, try_encode_including_sentinels, try_encode_with_sentinel,
+    try_encode_including_sentinels, try_encode_with_sentinel,
 };
 pub use error::{DecodeError, DecodeReport, DestBufTooSmallError, PushError};
-pub use find::{leading_zeros, len_to_zero};
 #[cfg(feature = "std")]
 pub use framed::Recorded;
 pub use framed::{FrameReader, FrameSource, Next, ReadFault};
+pub use lanes::xor_bytes;
 #[cfg(feature = "alloc")]
 pub use stream::{FrameOutcome, decode_stream};
 

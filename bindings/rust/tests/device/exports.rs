@@ -80,12 +80,11 @@ pub unsafe extern "C" fn jcobs_encode_terminated(from: *const u8, len: usize, to
 }
 
 #[unsafe(no_mangle)]
-pub unsafe extern "C" fn jcobs_encode_in_place(buffer: *mut u8, room: usize, len: usize) -> Answer {
-    let most = jcobs_max_length(len);
-    if most == 0 || room < most {
+pub unsafe extern "C" fn jcobs_encode_in_place(buffer: *mut u8, room: usize, start: usize, len: usize) -> Answer {
+    if start < jcobs::max_encoding_overhead(len) || room < start || room - start < len {
         return answer(2, 0, 0);
     }
-    answer(0, len, jcobs::encode_in_place(unsafe { write(buffer, room) }, len))
+    answer(0, len, jcobs::encode_in_place(unsafe { write(buffer, room) }, start, len))
 }
 
 #[unsafe(no_mangle)]

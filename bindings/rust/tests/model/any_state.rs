@@ -73,14 +73,14 @@ fn check_decoder(state: UnbufferedDecoder, len: usize, piece: &[u8]) {
             assert!(decoder.is_idle(), "{}", place());
         }
     }
-    for by_bytes in [false, true] {
+    for sentinel in [0, 7] {
         let mut decoder = state;
-        let ended = match by_bytes {
-            false => decoder.feed_piece(&mut dest, piece),
-            true => decoder.feed_each(&mut dest, piece, 0),
+        let ended = match sentinel {
+            0 => decoder.feed_piece(&mut dest, piece),
+            _ => decoder.feed_piece_with_sentinel(&mut dest, piece, sentinel),
         };
         let Some((end, taken)) = ended else { continue };
-        assert_eq!(piece[taken - 1], 0, "{}", place());
+        assert_eq!(piece[taken - 1], sentinel, "{}", place());
         assert!(decoder.is_idle(), "{}", place());
         if let jcobs::PieceEnd::Message(message) = end {
             assert!(message <= len, "{}", place());
@@ -127,45 +127,17 @@ fn check_encoder(state: UnbufferedEncoder, len: usize, piece: &[u8]) {
     } else if piece.is_empty() {
         assert_eq!(pushed, Ok(()), "{}", place());
     }
-    check_by_bytes(state, len, piece, pushed);
+    if let Some(byte) = piece.first() {
+        let mut other = vec![FILL; len];
+        let (mut by_push, mut by_feed) = (state, state);
+        let pushed = by_push.push(&mut other, &[*byte]);
+        assert_eq!(by_feed.feed(&mut other, *byte), pushed, "{}", place());
+        assert_eq!(by_feed, by_push, "{}", place());
+    }
     let finished = encoder.finalize(&mut dest);
-    let mut by_bytes = state;
-    let mut bytes_dest = vec![FILL; len];
-    let by_bytes_pushed = by_bytes.push_each(&mut bytes_dest, piece);
-    assert_eq!(by_bytes_pushed, pushed, "{}", place());
-    let by_bytes_finished = by_bytes.finalize(&mut bytes_dest);
-    assert_eq!(by_bytes_finished, finished, "{}", place());
-    assert_eq!(bytes_dest, dest, "{}", place());
     match finished {
         Ok(message) => assert!(is_within && message <= len, "{}", place()),
         Err(DestBufTooSmallError) => assert!(!is_within, "{}", place()),
-    }
-}
-
-/// Compares the calls for single bytes and for a few bytes with this result of `push` of the piece.
-fn check_by_bytes(
-    state: UnbufferedEncoder,
-    len: usize,
-    piece: &[u8],
-    pushed: Result<(), DestBufTooSmallError>,
-) {
-    let place = || format!("{state:?}, a buffer of {len}, {piece:?}");
-    let mut dest = vec![FILL; len];
-    let mut other = state;
-    if other.push_few(&mut dest, piece) {
-        assert_eq!(pushed, Ok(()), "{}", place());
-    }
-    if let Some(byte) = piece.first() {
-        let mut by_push = state;
-        let pushed = by_push.push(&mut dest, &[*byte]);
-        let mut by_feed = state;
-        assert_eq!(by_feed.feed(&mut dest, *byte), pushed, "{}", place());
-        let mut by_len = state;
-        let fed = by_len.feed_len(&mut dest, *byte);
-        assert_eq!(fed.map(|_| ()), pushed, "{}", place());
-        for other in [by_feed, by_len] {
-            assert_eq!(other, by_push, "{}", place());
-        }
     }
 }
 

@@ -102,7 +102,7 @@ impl Case {
         let sentinel = [0, 7, 0xFF][cut % 3];
         self.check(cut, |dest, bytes| {
             let xored: Vec<_> = bytes.iter().map(|byte| byte ^ sentinel).collect();
-            match decoder.feed_each(dest, &xored, sentinel) {
+            match decoder.feed_piece_with_sentinel(dest, &xored, sentinel) {
                 None => (bytes.len(), None),
                 Some((end, taken)) => (taken, Some(end.into_result())),
             }

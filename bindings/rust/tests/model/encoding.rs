@@ -8,10 +8,6 @@ use crate::{ALL, FILL, messages, some_messages};
 /// The bytes of a message after its run: each of these is tested.
 const TAILS: [&[u8]; 3] = [&[], &[0], &[0, 7, 7, 7, 7, 7]];
 
-/// A call that takes a byte, and returns the length of the frame so far.
-type Take<'a> =
-    &'a mut dyn FnMut(&mut UnbufferedEncoder, &mut [u8], u8) -> Result<usize, DestBufTooSmallError>;
-
 /// A message, its frame, and the length of the frame of each front of the message.
 struct Case<'a> {
     message: &'a [u8],
@@ -62,7 +58,7 @@ impl<'a> Case<'a> {
         buffer[overhead..][..self.message.len()].copy_from_slice(self.message);
         let mut expected = buffer.clone();
         expected[..self.frame.len()].copy_from_slice(&self.frame);
-        let len = jcobs::encode_in_place(&mut buffer, self.message.len());
+        let len = jcobs::encode_in_place(&mut buffer, overhead, self.message.len());
         assert_eq!(len, self.frame.len(), "{:?}", self.message);
         assert_eq!(buffer, expected, "{:?}", self.message);
     }
@@ -87,37 +83,24 @@ impl<'a> Case<'a> {
     fn check_steps(&self, room: usize) {
         let place = || format!("{:?}, room for {room}", self.message);
         let fits = self.lens.partition_point(|&len| len <= room).max(1) - 1;
-        let by_byte = |take: Take| {
-            let (mut dest, mut encoder) = (vec![FILL; room], UnbufferedEncoder::new());
-            for (before, byte) in self.message[..fits].iter().enumerate() {
-                let taken = take(&mut encoder, &mut dest, *byte);
-                assert_eq!(taken, Ok(self.lens[before + 1]), "{}", place());
-            }
-            if let Some(byte) = self.message.get(fits) {
-                let before = encoder;
-                let taken = take(&mut encoder, &mut dest, *byte);
-                assert_eq!(taken, Err(DestBufTooSmallError), "{}", place());
-                assert_eq!(encoder, before, "{}", place());
-            }
-            if let Ok(len) = encoder.finalize(&mut dest) {
-                self.check_frame(len, &dest, fits, [true, fits == self.message.len()]);
-            }
-        };
-        by_byte(&mut |encoder, dest, byte| encoder.feed_len(dest, byte));
-        let mut lens = self.lens.iter().skip(1);
-        by_byte(&mut |encoder, dest, byte| {
-            let len = lens.next().expect("a length for each byte");
-            encoder.feed(dest, byte).map(|()| *len)
-        });
+        let (mut dest, mut encoder) = (vec![FILL; room], UnbufferedEncoder::new());
+        for byte in &self.message[..fits] {
+            assert_eq!(encoder.feed(&mut dest, *byte), Ok(()), "{}", place());
+        }
+        if let Some(byte) = self.message.get(fits) {
+            let before = encoder;
+            let taken = encoder.feed(&mut dest, *byte);
+            assert_eq!(taken, Err(DestBufTooSmallError), "{}", place());
+            assert_eq!(encoder, before, "{}", place());
+        }
+        if let Ok(len) = encoder.finalize(&mut dest) {
+            self.check_frame(len, &dest, fits, [true, fits == self.message.len()]);
+        }
         for count in [1, 3, 8] {
             let (mut dest, mut encoder) = (vec![FILL; room], UnbufferedEncoder::new());
             for piece in self.message[..fits].chunks(count) {
-                let before = encoder;
-                if !encoder.push_few(&mut dest, piece) {
-                    assert_eq!(encoder, before, "{}", place());
-                    let pushed = encoder.push_each(&mut dest, piece);
-                    assert_eq!(pushed, Ok(()), "{}", place());
-                }
+                let pushed = encoder.push(&mut dest, piece);
+                assert_eq!(pushed, Ok(()), "{}", place());
             }
             if let Ok(len) = encoder.finalize(&mut dest) {
                 self.check_frame(len, &dest, fits, [true, fits == self.message.len()]);
@@ -148,10 +131,10 @@ impl<'a> Case<'a> {
 
         let mut dest = vec![FILL; room];
         let mut encoder = UnbufferedEncoder::new();
-        let first_pushed = encoder.push_each(&mut dest, first);
+        let first_pushed = encoder.push(&mut dest, first);
         assert_eq!(first_pushed, pushed(fits[0]), "{}", place());
         if fits[0] {
-            let second_pushed = encoder.push_each(&mut dest, second);
+            let second_pushed = encoder.push(&mut dest, second);
             assert_eq!(second_pushed, pushed(fits[1]), "{}", place());
         }
         if let Ok(len) = encoder.finalize(&mut dest) {

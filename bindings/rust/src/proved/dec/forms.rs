@@ -1,26 +1,17 @@
 // Made by bindings/rust/translate.py from `crates/cobs/src/dec/forms.rt`: change that file, and run it again.
 //! `decode_with_sentinel`, whose caller chooses the sentinel, and the calls that decode into a new vector.
 
-use crate::proved::block::FULL_BLOCK_BYTES;
-use crate::proved::cobs_bytes::window::{WIDE_WINDOW, has_vectors};
-use crate::proved::dec::each::decode_head_each;
-use crate::proved::dec::span::{decode_span, kept_len, message_len};
+use crate::access::Access;
+use crate::proved::dec::span::{kept_len, message_len};
 use crate::proved::dec::unbuffered::START;
 use crate::proved::error::DecodeError;
-use crate::proved::find::{len_without_end, position_or_len};
+use crate::proved::find::position_or_len;
 
 /// Decodes a source that contains no sentinel, and returns the message's length in bytes.
 fn decode_blocks(source: &[u8], dest: &mut [u8], sentinel: u8) -> Result<usize, DecodeError> {
-    // A block has at most 255 bytes. So each block that begins before the last 254 bytes of the source is whole, and
-    // the bytes before the last 254 bytes need no test. Before the last 254 bytes are decoded, `kept_len` finds out
-    // whether the last block is broken.
-    let tail = source.len().saturating_sub(FULL_BLOCK_BYTES);
+    let (len, whole) = kept_len(source, sentinel);
     let mut progress = START;
-    if progress.take_blocks(dest, &source[..tail], sentinel) < tail {
-        return Err(DecodeError::TargetBufTooSmall);
-    }
-    let (len, whole) = kept_len(&source[tail..], progress.missing as usize, sentinel);
-    if progress.take_blocks(dest, &source[tail..tail + len], sentinel) < len {
+    if progress.take_blocks(dest, source.part(..len), sentinel) < len {
         return Err(DecodeError::TargetBufTooSmall);
     }
     message_len(progress.written, whole)
@@ -53,20 +44,9 @@ pub fn decode_with_sentinel(
     dest: &mut [u8],
     sentinel: u8,
 ) -> Result<usize, DecodeError> {
-    if !has_vectors() {
-        return decode_head_each(source, dest, sentinel);
-    }
     if source.is_empty() {
         return Err(DecodeError::EmptyFrame);
     }
-    let len = len_without_end(source, sentinel);
-    // If the frame is broken, the bytes of `dest` after the output must stay unchanged. So a short frame is first
-    // decoded into the local buffer `short`.
-    let mut short = [0; WIDE_WINDOW];
-    if len <= dest.len() + 1 && decode_span(&source[..len], &mut short, sentinel) == Some(0) {
-        dest[..len - 1].copy_from_slice(&short[..len - 1]);
-        return Ok(len - 1);
-    }
     let end = position_or_len(source, sentinel);
-    decode_blocks(&source[..end], dest, sentinel)
+    decode_blocks(source.part(..end), dest, sentinel)
 }

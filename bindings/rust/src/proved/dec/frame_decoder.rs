@@ -88,8 +88,7 @@ pub trait FrameDecoder {
     /// The bytes of the buffer after the piece's output are unchanged.
     ///
     /// An implementation doesn't have to define this method: the provided method feeds one byte after another. The
-    /// decoders of this library have their own `feed_piece`, which copies many bytes in one step on targets with SIMD
-    /// vectors.
+    /// decoders of this library have their own `feed_piece`, which searches for the end of the piece and copies slices.
     ///
     /// ```
     /// use jcobs::{CobsDecoderHeapless, FrameDecoder, PieceEnd};

@@ -1,55 +1,41 @@
 // Made by bindings/rust/translate.py from `crates/cobs/src/dec/in_place.rt`: change that file, and run it again.
 //! Decoding a frame in the buffer that holds it.
 
-use crate::proved::block::FULL_BLOCK_BYTES;
-use crate::proved::cobs_bytes::lanes::{copy_xored_short, move_to_front, xor_bytes};
-use crate::proved::cobs_bytes::window::{WIDE_WINDOW, WINDOW, has_vectors, is_all, write_row};
-use crate::proved::dec::each::decode_in_place_each;
-use crate::proved::dec::span::{SPAN_MAX, kept_len, message_len, write_zeros_at_codes};
+use crate::access::Access;
+use crate::proved::dec::span::{kept_len, message_len};
 use crate::proved::dec::unbuffered::{START, UnbufferedDecoder};
 use crate::proved::error::{DecodeError, DecodeReport};
-use crate::proved::find::{len_without_end, zero_or_len};
+use crate::proved::find::{SHORT, position_or_len};
+use crate::proved::lanes::xor_bytes;
 
 /// Moves `len` bytes of the buffer from index `read` to index `at`, which is at most `read`. Only the `len` bytes from
 /// index `at` on are overwritten.
 #[inline(always)]
 fn move_back(buffer: &mut [u8], at: usize, read: usize, len: usize) {
-    move_to_front(&mut buffer[at..], read - at, len);
+    buffer.copy_inside(read..read + len, at);
 }
 
 impl UnbufferedDecoder {
     /// Makes one decoding step: decodes one or more bytes of the buffer. The first of these bytes is at index `read`,
     /// and the last is before index `end`. Writes the output to the same buffer, and returns how many bytes it decoded.
-    /// The steps are those of `take_part` in `run.rt`, with two differences. First, if the bytes begin with rows of 32
-    /// blocks, each with the code 01, a step decodes only the first row. Second, the output always fits the buffer.
+    /// The steps are those of `take_part` in `run.rt`, but the output always fits the buffer.
     ///
     /// The output must not overwrite a byte that isn't decoded yet. So the caller ensures that the output so far is at
     /// most `read` bytes long. If the next code will add a zero to the output, the caller ensures that the output so
     /// far is less than `read` bytes long.
     #[inline(always)]
     fn take_part_in_place(&mut self, buffer: &mut [u8], read: usize, end: usize) -> usize {
-        let code = buffer[read];
-        let missing = self.missing;
-        if missing == 0 && code as usize > WIDE_WINDOW {
-            self.take_joint(buffer, code);
-            let at = self.written;
-            let len = (self.missing as usize).min(end - read - 1);
-            move_back(buffer, at, read + 1, len);
-            self.written = at + len;
-            self.missing -= len as u8;
-            return 1 + len;
+        if end <= SHORT {
+            let byte = buffer.byte(read);
+            self.take_byte(buffer, byte);
+            return 1;
         }
-        if missing == 0 && self.joint == 0 {
-            self.take_joint(buffer, code);
+        if self.is_at_code() {
+            self.take_code(buffer.byte(read));
             return 1;
         }
         let at = self.written;
-        let len = self.span_len((end - read).min(SPAN_MAX));
-        if missing == 0 && code == 1 && WINDOW <= len && is_all(buffer, read, 1) {
-            write_row(buffer, at, 0);
-            self.written = at + WINDOW;
-            return WINDOW;
-        }
+        let len = self.span_len(end - read);
         move_back(buffer, at, read, len);
         self.take_moved(buffer, len);
         len
@@ -66,43 +52,14 @@ impl UnbufferedDecoder {
     }
 }
 
-/// Decodes the first `end` bytes of the buffer in place, as one frame, and returns the message's length in bytes. The
-/// caller ensures that none of these bytes is a zero.
+/// Decodes the first `end` bytes of the buffer in place, as one frame, and returns the message's length in bytes. None
+/// of these bytes is a zero.
 #[inline(never)]
 fn decode_blocks_in_place(buffer: &mut [u8], end: usize) -> Result<usize, DecodeError> {
-    // A block has at most 255 bytes. So each block that begins before the last 254 bytes of the frame is whole, and the
-    // bytes before the last 254 bytes need no test. Before the last 254 bytes are decoded, `kept_len` finds out whether
-    // the last block is broken.
-    let tail = end.saturating_sub(FULL_BLOCK_BYTES);
+    let (len, whole) = kept_len(buffer.part(..end), 0);
     let mut progress = START;
-    progress.take_in_place(buffer, 0, tail);
-    let (len, whole) = kept_len(&buffer[tail..end], progress.missing as usize, 0);
-    progress.take_in_place(buffer, tail, tail + len);
+    progress.take_in_place(buffer, 0, len);
     message_len(progress.written, whole)
-}
-
-/// Decodes the first `len` bytes of the buffer in place, if `len` is from 2 to 65 and these bytes are a frame. Returns
-/// whether it decoded the bytes; if it returns false, the buffer is unchanged. The function copies the bytes before it
-/// decodes them, and restores them from the copy if the frame is broken.
-#[inline(always)]
-fn decode_span_in_place(buffer: &mut [u8], len: usize) -> bool {
-    let mut coded = [0; WIDE_WINDOW + 1];
-    if len < 2 || WIDE_WINDOW + 1 < len || buffer[0] == 0 {
-        return false;
-    }
-    if !copy_xored_short(&buffer[1..len], &mut coded[1..], 0) {
-        return false;
-    }
-    coded[0] = buffer[0];
-    // The bytes to decode are moved within the buffer. They aren't copied back from `coded`, because a load from
-    // `coded` would have to wait for the stores that have just filled `coded`.
-    move_to_front(buffer, 1, len - 1);
-    let (_, left) = write_zeros_at_codes(&mut buffer[..len - 1], coded[0] as usize);
-    if left != 0 {
-        buffer[..len].copy_from_slice(&coded[..len]);
-        return false;
-    }
-    true
 }
 
 /// Decodes the frame at the front of the buffer in place, up to the first zero or the buffer's end. Returns the length
@@ -127,44 +84,14 @@ fn decode_span_in_place(buffer: &mut [u8], len: usize) -> bool {
 // decoding a frame of a few bytes.
 #[inline(always)]
 pub fn decode_in_place_report(buf: &mut [u8]) -> Result<DecodeReport, DecodeError> {
-    if !has_vectors() {
-        return decode_in_place_each(buf);
-    }
     if buf.is_empty() {
         return Err(DecodeError::EmptyFrame);
     }
-    if let Some(report) = decode_short_in_place(buf) {
-        return Ok(report);
-    }
-    let end = zero_or_len(buf);
+    let end = position_or_len(buf, 0);
     let frame_size = decode_blocks_in_place(buf, end)?;
     Ok(DecodeReport {
         parsed_size: end,
         frame_size,
-    })
-}
-
-/// Decodes a short frame in place, as [`decode_in_place_report`] does. If the buffer isn't a short frame, returns
-/// `None` and leaves the buffer unchanged.
-///
-/// The buffer is decoded if it consists of a whole frame of 2 to 65 bytes, with or without one zero after the frame. If
-/// the target has SIMD vectors, [`decode_in_place_report`] calls this function first. Like
-/// `decode_short`, this function is marked `#[inline(always)]`, and so are the functions of this
-/// library that it calls.
-#[inline(always)]
-pub fn decode_short_in_place(buf: &mut [u8]) -> Option<DecodeReport> {
-    if buf.is_empty() {
-        return None;
-    }
-    let len = len_without_end(buf, 0);
-    if !decode_span_in_place(buf, len) {
-        return None;
-    }
-    // A frame of up to 65 bytes has no full block. So each of its codes, except the first, has become a zero of the
-    // message.
-    Some(DecodeReport {
-        parsed_size: len,
-        frame_size: len - 1,
     })
 }
 

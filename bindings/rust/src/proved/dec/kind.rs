@@ -1,8 +1,9 @@
 // Made by bindings/rust/translate.py from `crates/cobs/src/dec/kind.rt`: change that file, and run it again.
 //! Finds out whether some bytes are a frame, and whether the frame is the one that encoders write for its message.
 
+use crate::access::Access;
 use crate::proved::block::FULL_CODE;
-use crate::proved::find::zero_or_len;
+use crate::proved::find::position_or_len;
 
 /// Says whether some bytes are a frame, and whether the frame is the one that encoders write for its message.
 ///
@@ -37,21 +38,13 @@ pub enum FrameKind {
 /// A frame is defined by its blocks, as in Cheshire and Baker's paper. If a message has two frames, the shorter frame
 /// is the canonical one. This is a choice of this library: all its `encode` functions write the shorter frame.
 pub fn frame_kind(bytes: &[u8]) -> FrameKind {
-    if zero_or_len(bytes) < bytes.len() {
+    if position_or_len(bytes, 0) < bytes.len() {
         return FrameKind::NotAFrame;
     }
-    kind_by_blocks(bytes)
-}
-
-/// Returns whether the bytes are a frame, and which kind of frame, as [`frame_kind`] does. This function reads only the
-/// code of each block, and doesn't search the other bytes for a zero.
-///
-/// Precondition: no byte is a zero.
-pub fn kind_by_blocks(bytes: &[u8]) -> FrameKind {
     let mut read = 0;
     let mut after_full = false;
     while read < bytes.len() {
-        let code = bytes[read] as usize;
+        let code = bytes.byte(read) as usize;
         let left = bytes.len() - read;
         if left < code {
             return FrameKind::NotAFrame;

@@ -1,8 +1,8 @@
 // Made by bindings/rust/translate.py from `crates/cobs/src/dec/step.rt`: change that file, and run it again.
-//! The step that a streaming decoder makes for one byte, and a loop that makes one step for each byte.
+//! The step that a streaming decoder makes for one byte, and a loop of such steps.
 
+use crate::access::Access;
 use crate::proved::block::FULL;
-use crate::proved::dec::frame_decoder::PieceEnd;
 use crate::proved::dec::unbuffered::{START, UnbufferedDecoder};
 use crate::proved::error::DecodeError;
 
@@ -42,133 +42,55 @@ impl UnbufferedDecoder {
         }
     }
 
-    /// Decodes a nonzero byte of a piece into the buffer, and returns how many decoded bytes of the piece the buffer
-    /// then holds. If the output of the piece is too long for the buffer, the function returns the buffer's length.
-    ///
-    /// For a nonzero byte, [`feed`](Self::feed) makes the same step. Pass a zero, which ends a piece, to `feed`. If you
-    /// pass a zero to `take_byte`, the results for the open piece and the bytes of the buffer are unspecified.
-    ///
-    /// ```
-    /// use jcobs::UnbufferedDecoder;
-    ///
-    /// let mut buffer = [0; 4];
-    /// let mut decoder = UnbufferedDecoder::new();
-    /// assert_eq!(decoder.take_byte(&mut buffer, 3), 0);
-    /// assert_eq!(decoder.take_byte(&mut buffer, 7), 1);
-    /// assert_eq!(decoder.take_byte(&mut buffer, 8), 2);
-    /// assert_eq!(decoder.feed(&mut buffer, 0), Ok(Some(2)));
-    /// assert!(buffer.starts_with(&[7, 8]));
-    /// ```
-    // If the byte is inside a block, the function returns early, because in this case the returned value needs no
-    // comparison with the buffer's length. With one return for all cases, compilers generate more instructions for a
-    // call with one byte.
+    /// Decodes a nonzero byte of a piece into the buffer. Returns false and changes nothing if the buffer has no room for
+    /// the output of this byte.
+    // `written` is read only once, because otherwise compilers would read it again after each write to the buffer. Each
+    // case writes its byte itself: it would be slower to choose the byte first and then to write it in one place.
     #[inline(always)]
-    pub fn take_byte(&mut self, dest: &mut [u8], byte: u8) -> usize {
-        let room = dest.len();
-        if self.too_long != 0 {
-            return room;
-        }
-        // `written` is read only once, here, because otherwise compilers would read it again after each write to the
-        // buffer. Each case writes its byte itself: it would be slower to choose the byte first and then to write it in
-        // one place.
-        let mut at = self.written;
+    pub(crate) fn take_byte(&mut self, dest: &mut [u8], byte: u8) -> bool {
+        let at = self.written;
         if self.missing != 0 {
-            if at < room {
-                dest[at] = byte;
-                self.written = at + 1;
-                self.missing -= 1;
-                return at + 1;
+            if dest.len() <= at {
+                return false;
             }
-            self.too_long = 1;
-            return room;
+            dest.put(at, byte);
+            self.written = at + 1;
+            self.missing -= 1;
+            return true;
         }
         if self.joint != 0 {
-            if room <= at {
-                self.too_long = 1;
-                return room;
+            if dest.len() <= at {
+                return false;
             }
-            dest[at] = 0;
-            at += 1;
-            self.written = at;
+            dest.put(at, 0);
+            self.written = at + 1;
         }
-        // For a zero, which no caller should pass, the subtraction wraps.
-        self.missing = byte.wrapping_sub(1);
+        self.missing = byte - 1;
         self.joint = joint_after(byte);
-        // `at` is greater than `room` only if the caller has passed another buffer, or has changed the decoder's
-        // numbers.
-        at.min(room)
+        true
     }
 
-    /// Decodes the next byte of the stream, and writes the output of this byte to the buffer.
+    /// Decodes `bytes` one by one, up to the first sentinel, as long as `dest` has room for the output. Returns how many
+    /// bytes it decoded.
     #[inline(always)]
-    pub(crate) fn step(&mut self, dest: &mut [u8], byte: u8) -> Result<Option<usize>, DecodeError> {
-        if byte == 0 {
-            return self.end(dest.len());
-        }
-        self.take_byte(dest, byte);
-        if self.too_long != 0 {
-            return Err(DecodeError::TargetBufTooSmall);
-        }
-        Ok(None)
-    }
-
-    /// Decodes the next bytes of a stream, one byte at a time. The frames of the stream were encoded with `sentinel`.
-    /// The function stops after the sentinel that ends the first piece. If no piece ends, it decodes all bytes. For the
-    /// sentinel 0, the effect and the result are those of [`feed_piece`](Self::feed_piece). The function doesn't search
-    /// ahead or copy slices, so its code is small, and it is fast for a few bytes.
-    ///
-    /// ```
-    /// use jcobs::{PieceEnd, UnbufferedDecoder};
-    ///
-    /// let mut decoder = UnbufferedDecoder::new();
-    /// let mut buffer = [0; 4];
-    /// let frame = [2 ^ 10, 7 ^ 10, 1 ^ 10, 10];
-    /// assert_eq!(decoder.feed_each(&mut buffer, &frame[..3], 10), None);
-    /// let end = decoder.feed_each(&mut buffer, &frame[3..], 10);
-    /// assert_eq!(end, Some((PieceEnd::Message(2), 1)));
-    /// assert!(buffer.starts_with(&[7, 0]));
-    /// ```
-    #[inline(always)]
-    pub fn feed_each(
-        &mut self,
-        dest: &mut [u8],
-        bytes: &[u8],
-        sentinel: u8,
-    ) -> Option<(PieceEnd, usize)> {
+    pub(crate) fn take_steps(&mut self, dest: &mut [u8], bytes: &[u8], sentinel: u8) -> usize {
         // The loop changes `here`, a copy of the decoder that stays in registers. If the loop changed the decoder
         // itself, compilers would read the fields again after each byte that is written.
-        let mut here = *self;
+        let mut here = UnbufferedDecoder {
+            too_long: 0,
+            ..*self
+        };
         let mut taken = 0;
-        if here.too_long == 0 {
-            while taken < bytes.len() {
-                let byte = bytes[taken] ^ sentinel;
-                taken += 1;
-                if byte != 0 {
-                    here.take_byte(dest, byte);
-                    if here.too_long != 0 {
-                        break;
-                    }
-                } else if let Some(end) = PieceEnd::reported(here.end(dest.len())) {
-                    *self = START;
-                    return Some((end, taken));
-                }
-            }
-        }
-        // If the piece is too long, only the sentinel that ends it matters.
         while taken < bytes.len() {
-            let byte = bytes[taken] ^ sentinel;
-            taken += 1;
-            if byte == 0 {
-                *self = START;
-                return Some((PieceEnd::TooLong, taken));
+            let byte = bytes.byte(taken) ^ sentinel;
+            if byte == 0 || !here.take_byte(dest, byte) {
+                break;
             }
+            taken += 1;
         }
-        // The fields are assigned one by one. If the whole decoder is assigned, a push needs 24 bytes more flash on a
-        // Cortex-M4, compiled by rustc.
         self.written = here.written;
         self.missing = here.missing;
         self.joint = here.joint;
-        self.too_long = here.too_long;
-        None
+        taken
     }
 }

@@ -2,10 +2,10 @@
 //! A streaming decoder whose caller passes the buffer to each call. The three other streaming decoders use this
 //! decoder.
 
-use crate::proved::cobs_bytes::window::{WINDOW, has_vectors};
+use crate::access::Access;
 use crate::proved::dec::frame_decoder::PieceEnd;
 use crate::proved::error::{DecodeError, DecodeReport, PushError};
-use crate::proved::find::{front_len, leading_zeros, position_or_len};
+use crate::proved::find::position_or_len;
 
 /// Decodes a stream of frames, each ended by a zero, into a buffer that the caller passes to each call.
 ///
@@ -47,13 +47,6 @@ pub struct UnbufferedDecoder {
     /// Not 0 if the piece's output is too long for the buffer.
     pub too_long: u8,
 }
-
-/// For up to this many bytes, decoding byte by byte is faster than searching for the zero that ends the piece.
-const FEW: usize = 16;
-
-/// For up to this many bytes, decoding byte by byte is faster than testing whether the bytes can be copied in SIMD
-/// vectors.
-const VERY_FEW: usize = 3;
 
 /// The state of an idle decoder: no piece has begun.
 pub(crate) const START: UnbufferedDecoder = UnbufferedDecoder {
@@ -125,7 +118,14 @@ impl UnbufferedDecoder {
     /// ```
     #[inline(always)]
     pub fn feed(&mut self, dest: &mut [u8], byte: u8) -> Result<Option<usize>, DecodeError> {
-        self.step(dest, byte)
+        if byte == 0 {
+            return self.end(dest.len());
+        }
+        if self.too_long == 0 && self.take_byte(dest, byte) {
+            return Ok(None);
+        }
+        self.too_long = 1;
+        Err(DecodeError::TargetBufTooSmall)
     }
 
     /// Decodes the next bytes of the stream, with `dest` as the buffer, and stops after the first byte for which `feed`
@@ -145,27 +145,13 @@ impl UnbufferedDecoder {
         dest: &mut [u8],
         bytes: &[u8],
     ) -> Result<Option<DecodeReport>, PushError> {
-        if has_vectors() && self.take_short(dest, bytes) {
-            return Ok(None);
-        }
-        self.push_long(dest, bytes)
-    }
-
-    /// Decodes `bytes` as `push` does. `push` calls this function only if `take_short` decoded nothing, but the
-    /// function is correct for any bytes.
-    fn push_long(
-        &mut self,
-        dest: &mut [u8],
-        bytes: &[u8],
-    ) -> Result<Option<DecodeReport>, PushError> {
         let mut at = 0;
         while at < bytes.len() {
-            at += self.take_at_once(dest, &bytes[at..]);
-            // The byte at index `at` is a zero, or a byte of a piece that is too long. On a target without vectors, it
-            // may be any byte.
+            at += self.take_run(dest, bytes.part(at..), 0);
+            // The byte at index `at` is a zero, or a byte of a piece that is too long.
             if at < bytes.len() {
                 let parsed_size = at + 1;
-                match self.feed(dest, bytes[at]) {
+                match self.feed(dest, bytes.byte(at)) {
                     Ok(None) => at = parsed_size,
                     Ok(Some(frame_size)) => {
                         return Ok(Some(DecodeReport {
@@ -193,76 +179,64 @@ impl UnbufferedDecoder {
     /// ```
     #[inline]
     pub fn feed_piece(&mut self, dest: &mut [u8], bytes: &[u8]) -> Option<(PieceEnd, usize)> {
-        // On a target without vectors, the bytes are decoded one by one.
-        if !has_vectors() {
-            return self.feed_each(dest, bytes, 0);
-        }
-        if VERY_FEW < bytes.len() {
-            if self.is_idle() {
-                // If one of the first 66 bytes is a zero, `take_front` decodes the bytes before the first zero, and
-                // then this zero ends the piece. If none of them is a zero, `take_front` decodes all bytes, but only if
-                // there are fewer than 32 bytes. For 32 bytes or more, a search with memchr is faster. `take_front`
-                // decodes nothing if there are fewer than 2 bytes to decode, or if `dest` has no room for their output.
-                let front = front_len(bytes);
-                let is_all = front == bytes.len();
-                if (!is_all || front < WINDOW) && self.take_front(dest, &bytes[..front]) {
-                    if is_all {
-                        return None;
-                    }
-                    // A piece is open, so the zero ends it, and `reported` doesn't return `None`.
-                    let end = PieceEnd::reported(self.feed(dest, 0))?;
-                    return Some((end, front + 1));
-                }
-            } else if self.take_short(dest, bytes) {
-                return None;
-            }
-        }
-        if bytes.len() <= FEW {
-            return self.feed_each(dest, bytes, 0);
-        }
-        let taken = self.take_to_end(dest, bytes);
+        self.feed_piece_with_sentinel(dest, bytes, 0)
+    }
+
+    /// Decodes the next bytes of a stream whose frames were encoded with `sentinel`, with `dest` as the buffer, and
+    /// stops after the first sentinel that ends a piece. The results are those of [`feed_piece`](Self::feed_piece),
+    /// with this sentinel in place of 0.
+    ///
+    /// ```
+    /// use jcobs::{PieceEnd, UnbufferedDecoder};
+    ///
+    /// let mut decoder = UnbufferedDecoder::new();
+    /// let mut buffer = [0; 4];
+    /// let frame = [2 ^ 10, 7 ^ 10, 1 ^ 10, 10];
+    /// assert_eq!(decoder.feed_piece_with_sentinel(&mut buffer, &frame[..3], 10), None);
+    /// let end = decoder.feed_piece_with_sentinel(&mut buffer, &frame[3..], 10);
+    /// assert_eq!(end, Some((PieceEnd::Message(2), 1)));
+    /// assert!(buffer.starts_with(&[7, 0]));
+    /// ```
+    #[inline(always)]
+    pub fn feed_piece_with_sentinel(
+        &mut self,
+        dest: &mut [u8],
+        bytes: &[u8],
+        sentinel: u8,
+    ) -> Option<(PieceEnd, usize)> {
+        let start = self.zeros_outside(bytes, sentinel);
+        let taken = start + self.take_run(dest, bytes.part(start..), sentinel);
         if taken == bytes.len() {
             return None;
         }
-        // The byte at index `taken` is the zero that ends the open piece.
-        let last = PieceEnd::reported(self.end(dest.len()))?;
-        Some((last, taken + 1))
-    }
-
-    /// Decodes the bytes before the first zero that ends a piece, and returns the index of this zero. If no piece ends
-    /// in `bytes`, decodes all bytes and returns their number. The caller ensures that there is at least one byte.
-    // This function isn't inlined, so that `feed_piece` doesn't have to save registers if the piece is short. The
-    // result is only a number, because a number is returned in a register.
-    #[inline(never)]
-    fn take_to_end(&mut self, dest: &mut [u8], bytes: &[u8]) -> usize {
-        let start = self.zeros_outside(bytes);
-        let taken = start + self.take_run(dest, &bytes[start..]);
-        if taken == bytes.len() || bytes[taken] == 0 {
-            return taken;
+        let next = taken + 1;
+        if bytes.byte(taken) == sentinel {
+            let end = PieceEnd::reported(self.end(dest.len()))?;
+            return Some((end, next));
         }
-        self.pass_to_end(dest, bytes, taken)
+        // The buffer has no room for the output of this byte, so only the sentinel that ends the piece still matters.
+        let end = next + position_or_len(bytes.part(next..), sentinel);
+        if end == bytes.len() {
+            self.too_long = 1;
+            return None;
+        }
+        *self = START;
+        Some((PieceEnd::TooLong, end + 1))
     }
 
-    /// Returns the number of zeros at the front of `bytes` if no piece has begun, because these zeros then end no
-    /// piece. If a piece has begun, the function returns 0. Some serial lines carry many zeros while no frame is sent.
-    /// The caller ensures that there is at least one byte.
+    /// Returns the number of sentinels at the front of `bytes` if no piece has begun, because these sentinels then end
+    /// no piece. If a piece has begun, the function returns 0. Some serial lines carry many sentinels while no frame is
+    /// sent.
     #[inline(always)]
-    fn zeros_outside(&self, bytes: &[u8]) -> usize {
-        if bytes[0] == 0 && self.is_idle() {
-            leading_zeros(bytes)
-        } else {
-            0
+    fn zeros_outside(&self, bytes: &[u8], sentinel: u8) -> usize {
+        if !self.is_idle() {
+            return 0;
         }
-    }
-
-    /// Skips the rest of a piece that is too long for the buffer. Returns the index of the first zero from index
-    /// `start` on, or the number of bytes if there is no such zero. The caller ensures that the buffer has no room for
-    /// the output of the byte at index `start`.
-    // This function isn't inlined, so that `take_to_end` needs fewer registers.
-    #[inline(never)]
-    fn pass_to_end(&mut self, dest: &mut [u8], bytes: &[u8], start: usize) -> usize {
-        self.take_byte(dest, bytes[start]);
-        let next = start + 1;
-        next + position_or_len(&bytes[next..], 0)
+        for i in 0..bytes.len() {
+            if bytes.byte(i) != sentinel {
+                return i;
+            }
+        }
+        bytes.len()
     }
 }

@@ -1,12 +1,27 @@
 // Made by bindings/rust/translate.py from `crates/cobs/src/dec/whole.rt`: change that file, and run it again.
 //! Decoding a whole frame into a separate buffer.
 
-use crate::proved::cobs_bytes::window::has_vectors;
-use crate::proved::dec::each::decode_each;
-use crate::proved::dec::span::{decode_span, message_len};
+use crate::proved::dec::frame_decoder::PieceEnd;
 use crate::proved::dec::unbuffered::START;
 use crate::proved::error::{DecodeError, DecodeReport};
-use crate::proved::find::{leading_zeros, len_without_end};
+
+/// Decodes the first piece of the source into `dest`. Returns how the piece ended, and how many bytes of the source were
+/// consumed: the leading zeros, the piece, and the zero after the piece if there is one. Returns `None` if the source
+/// has no piece.
+///
+/// This function decodes as [`decode`] does, but it returns the number of consumed bytes even if the piece is broken or
+/// too long. So a program can go on with the next frame of a buffer that has several.
+pub fn decode_first(source: &[u8], dest: &mut [u8]) -> Option<(PieceEnd, usize)> {
+    let mut progress = START;
+    match progress.feed_piece(dest, source) {
+        Some(ended) => Some(ended),
+        // No zero ends the piece, so the end of the source ends it.
+        None => {
+            let end = PieceEnd::reported(progress.end(dest.len()))?;
+            Some((end, source.len()))
+        }
+    }
+}
 
 /// Decodes the first frame of the source into `dest`, and returns how many bytes of the source were consumed and how
 /// many bytes the message has.
@@ -27,57 +42,18 @@ use crate::proved::find::{leading_zeros, len_without_end};
 ///
 /// The format is that of Cheshire and Baker's paper. The results for a broken frame are a choice of this library.
 pub fn decode(source: &[u8], dest: &mut [u8]) -> Result<DecodeReport, DecodeError> {
-    if !has_vectors() {
-        return decode_each(source, dest);
-    }
-    if let Some(result) = decode_short(source, dest) {
-        return result;
-    }
-    decode_long(source, dest)
-}
-
-/// Decodes a source of any length as [`decode`] does. ([`decode_short`] decodes only short frames.)
-#[inline(never)]
-fn decode_long(source: &[u8], dest: &mut [u8]) -> Result<DecodeReport, DecodeError> {
     if source.is_empty() {
         return Err(DecodeError::EmptyFrame);
     }
-    let start = leading_zeros(source);
-    if start == source.len() {
+    let Some((end, parsed_size)) = decode_first(source, dest) else {
         return Err(DecodeError::InvalidFrame { decoded_bytes: 0 });
-    }
-    let rest = &source[start..];
-    let mut progress = START;
-    let len = progress.take_run(dest, rest);
-    if len < rest.len() && rest[len] != 0 {
-        return Err(DecodeError::TargetBufTooSmall);
-    }
-    let parsed_size = (start + len + 1).min(source.len());
-    let result = message_len(progress.written, progress.missing == 0);
-    result.map(|frame_size| DecodeReport {
-        parsed_size,
-        frame_size,
-    })
-}
-
-/// Decodes a short frame as [`decode`] does. If the conditions below aren't met, returns `None` and leaves `dest`
-/// unchanged.
-///
-/// The source must consist of `n` nonzero bytes, with or without one zero after them. The number `n` must be from 2 to
-/// 65, and `dest` must have at least `n - 1` bytes. If the target has SIMD vectors, [`decode`] calls this function
-/// first. `decode_short` and the functions of this library that it calls are marked `#[inline(always)]`, so a caller
-/// decodes a short frame without a function call.
-#[inline(always)]
-pub fn decode_short(source: &[u8], dest: &mut [u8]) -> Option<Result<DecodeReport, DecodeError>> {
-    if source.is_empty() {
-        return None;
-    }
-    let len = len_without_end(source, 0);
-    let left = decode_span(&source[..len], dest, 0)?;
-    Some(
-        message_len(len - 1, left == 0).map(|frame_size| DecodeReport {
-            parsed_size: source.len(),
+    };
+    match end {
+        PieceEnd::Message(frame_size) => Ok(DecodeReport {
+            parsed_size,
             frame_size,
         }),
-    )
+        PieceEnd::Broken(decoded_bytes) => Err(DecodeError::InvalidFrame { decoded_bytes }),
+        PieceEnd::TooLong => Err(DecodeError::TargetBufTooSmall),
+    }
 }

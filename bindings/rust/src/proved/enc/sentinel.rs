@@ -1,10 +1,10 @@
 // Made by bindings/rust/translate.py from `crates/cobs/src/enc/sentinel.rt`: change that file, and run it again.
 //! Functions that encode with a sentinel other than 0, and functions that write a sentinel before and after the frame.
 
-use crate::proved::cobs_bytes::lanes::xor_bytes;
-use crate::proved::cobs_bytes::window::has_vectors;
-use crate::proved::enc::{encode_few, try_encode, try_encode_any, try_encode_each};
+use crate::access::Access;
+use crate::proved::enc::try_encode;
 use crate::proved::error::DestBufTooSmallError;
+use crate::proved::lanes::xor_bytes;
 
 /// Writes the encoded frame of `source` to the front of `dest`, as [`encode_with_sentinel`](crate::encode_with_sentinel) does, if the frame fits
 /// `dest`. Returns the frame's length in bytes.
@@ -17,14 +17,8 @@ pub fn try_encode_with_sentinel(
     dest: &mut [u8],
     sentinel: u8,
 ) -> Result<usize, DestBufTooSmallError> {
-    let written = if !has_vectors() {
-        try_encode_each(source, dest)?
-    } else if let Some(len) = encode_few(source, dest, sentinel) {
-        return Ok(len);
-    } else {
-        try_encode_any(source, dest)?
-    };
-    xor_bytes(&mut dest[..written], sentinel);
+    let written = try_encode(source, dest)?;
+    xor_bytes(dest.part_mut(..written), sentinel);
     Ok(written)
 }
 
@@ -43,8 +37,8 @@ pub fn try_encode_including_sentinels(
         return Err(DestBufTooSmallError);
     }
     let last = dest.len() - 1;
-    let written = try_encode(source, &mut dest[1..last])?;
-    dest[0] = 0;
-    dest[written + 1] = 0;
+    let written = try_encode(source, dest.part_mut(1..last))?;
+    dest.put(0, 0);
+    dest.put(written + 1, 0);
     Ok(written + 2)
 }

@@ -1,5 +1,8 @@
 // Made by bindings/rust/translate.py from `crates/cobs/src/enc/unbuffered.rt`: change that file, and run it again.
-//! The state of an encoder for a message that comes in chunks. The caller passes the encoder's buffer to each call.
+//! An encoder for a message that comes in chunks. The caller passes the encoder's buffer to each call.
+
+use crate::access::Access;
+use crate::proved::error::DestBufTooSmallError;
 
 /// Encodes a message that comes in chunks, straight into a buffer that the caller passes to each call.
 ///
@@ -77,22 +80,93 @@ impl UnbufferedEncoder {
         *self = UnbufferedEncoder::new();
     }
 
-    /// Sets the three numbers of the encoder to those of `state`.
-    // An assignment of the whole struct would also copy its padding.
+    /// Encodes the next bytes of the message, with `dest` as the buffer.
+    ///
+    /// An empty push changes nothing. The bytes of the buffer after the frame are never written.
+    ///
+    /// # Errors
+    /// Returns `DestBufTooSmallError` in exactly these two cases:
+    ///
+    /// - The encoded frame of all bytes pushed so far, including `bytes`, is longer than the buffer.
+    /// - The encoder's state isn't possible in a buffer of this length.
+    ///
+    /// In both cases, neither the encoder nor the buffer has changed. In the first case, the caller may end the
+    /// message, or push fewer bytes.
+    ///
+    /// ```
+    /// use jcobs::{DestBufTooSmallError, UnbufferedEncoder};
+    ///
+    /// let mut buffer = [170; 3];
+    /// let mut encoder = UnbufferedEncoder::new();
+    /// let rejected = encoder.push(&mut buffer, &[7, 8, 9]);
+    /// assert_eq!(rejected, Err(DestBufTooSmallError));
+    /// assert_eq!(encoder.push(&mut buffer, &[7, 8]), Ok(()));
+    /// assert_eq!(encoder.finalize(&mut buffer), Ok(3));
+    /// assert_eq!(buffer, [3, 7, 8]);
+    /// ```
+    // This function is inlined, so that a loop of short pushes keeps the encoder in registers.
     #[inline(always)]
-    pub(crate) fn set(&mut self, state: UnbufferedEncoder) {
-        self.index = state.index;
-        self.taken = state.taken;
-        self.full = state.full;
+    pub fn push(&mut self, dest: &mut [u8], bytes: &[u8]) -> Result<(), DestBufTooSmallError> {
+        // Without this test, a push of one byte takes three times as many instructions.
+        if bytes.len() == 1 {
+            return self.feed(dest, bytes.byte(0));
+        }
+        if !self.has_room(bytes, dest.len()) {
+            return Err(DestBufTooSmallError);
+        }
+        if !bytes.is_empty() {
+            self.append(dest, bytes);
+        }
+        Ok(())
     }
 
-    /// Returns whether the encoder's state is possible in a buffer of `len` bytes.
-    #[inline(always)]
-    pub(crate) fn is_within(&self, len: usize) -> bool {
-        // An open block has at most 253 bytes; `taken` is greater only if the caller has changed the encoder's numbers.
-        if 253 < self.taken || len < self.index {
-            return false;
+    /// Ends the message, and returns the length of its encoded frame in bytes. The buffer then begins with that frame,
+    /// and the encoder is ready for the next message. Every byte after the frame is as it was before this call.
+    ///
+    /// # Errors
+    /// Returns `DestBufTooSmallError` if the encoder's state isn't possible in a buffer of this length. Then neither
+    /// the encoder nor the buffer has changed.
+    ///
+    /// ```
+    /// use jcobs::{DestBufTooSmallError, UnbufferedEncoder};
+    ///
+    /// let rejected = UnbufferedEncoder::new().finalize(&mut []);
+    /// assert_eq!(rejected, Err(DestBufTooSmallError));
+    /// ```
+    pub fn finalize(&mut self, dest: &mut [u8]) -> Result<usize, DestBufTooSmallError> {
+        if !self.has_room(&[], dest.len()) {
+            return Err(DestBufTooSmallError);
         }
-        self.full != 0 || (self.taken as usize) < len - self.index
+        let len = self.close(dest);
+        self.reset();
+        Ok(len)
+    }
+
+    /// Encodes the next byte of the message, with `dest` as the buffer.
+    ///
+    /// The effect and the result are those of a [`push`](UnbufferedEncoder::push) of this one byte.
+    ///
+    /// # Errors
+    /// Returns `DestBufTooSmallError` if the encoded frame of the message up to and including this byte is longer than
+    /// the buffer, or if the encoder's state isn't possible in a buffer of this length. In both cases, neither the
+    /// encoder nor the buffer has changed.
+    ///
+    /// ```
+    /// use jcobs::{DestBufTooSmallError, UnbufferedEncoder};
+    ///
+    /// let mut buffer = [170; 2];
+    /// let mut encoder = UnbufferedEncoder::new();
+    /// assert_eq!(encoder.feed(&mut buffer, 7), Ok(()));
+    /// assert_eq!(encoder.feed(&mut buffer, 8), Err(DestBufTooSmallError));
+    /// assert_eq!(encoder.finalize(&mut buffer), Ok(2));
+    /// assert_eq!(buffer, [2, 7]);
+    /// ```
+    #[inline(always)]
+    pub fn feed(&mut self, dest: &mut [u8], byte: u8) -> Result<(), DestBufTooSmallError> {
+        if !self.has_room(&[byte], dest.len()) {
+            return Err(DestBufTooSmallError);
+        }
+        self.append_byte(dest, byte);
+        Ok(())
     }
 }

@@ -31,7 +31,7 @@ mod declared {
             room: usize,
             sentinel: u8,
         ) -> Answer;
-        pub fn jcobs_encode_in_place(buffer: *mut u8, room: usize, len: usize) -> Answer;
+        pub fn jcobs_encode_in_place(buffer: *mut u8, room: usize, start: usize, len: usize) -> Answer;
         pub fn jcobs_decode(s: *const u8, len: usize, m: *mut u8, room: usize) -> Answer;
         pub fn jcobs_decode_with_sentinel(
             s: *const u8,
@@ -77,7 +77,7 @@ calls! {
     encode_with_sentinel = jcobs_encode_with_sentinel(
         m: &[u8] => m.as_ptr(), m.len(); f: &mut [u8] => f.as_mut_ptr(), f.len(); sentinel: u8 => sentinel
     ) -> Answer;
-    encode_in_place = jcobs_encode_in_place(b: &mut [u8] => b.as_mut_ptr(), b.len(); len: usize => len) -> Answer;
+    encode_in_place = jcobs_encode_in_place(b: &mut [u8] => b.as_mut_ptr(), b.len(); start: usize => start; len: usize => len) -> Answer;
     decode = jcobs_decode(s: &[u8] => s.as_ptr(), s.len(); m: &mut [u8] => m.as_mut_ptr(), m.len()) -> Answer;
     decode_with_sentinel = jcobs_decode_with_sentinel(
         s: &[u8] => s.as_ptr(), s.len(); m: &mut [u8] => m.as_mut_ptr(), m.len(); sentinel: u8 => sentinel

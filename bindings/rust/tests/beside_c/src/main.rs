@@ -140,11 +140,11 @@ fn encoding(seen: &mut Compared, random: &mut Random) {
     let start = longest - message.len();
     c[start..longest].copy_from_slice(&message);
     let mut rust = c.clone();
-    let returned = encoded(library::encode_in_place(&mut c, message.len()));
+    let returned = encoded(library::encode_in_place(&mut c, start, message.len()));
     seen.same(
         "encode_in_place",
         returned,
-        Ok(jcobs::encode_in_place(&mut rust, message.len())),
+        Ok(jcobs::encode_in_place(&mut rust, start, message.len())),
         &message,
     );
     seen.same("encode_in_place, its buffer", &c, &rust, &message);
