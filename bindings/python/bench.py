@@ -3,7 +3,8 @@
 usage: python bench.py [--random] [LENGTH ..]
 
 The messages are like records: one byte in 16 is zero, at random places. With --random all bytes are random. A decoder
-is fed chunks of one frame, as from a serial line, and chunks of 32 frames, as from a file.
+is fed chunks of one frame, as from a serial line, and chunks of 64 KiB, as from a log. A loop over the outcomes of such a
+log is measured over `Decoder.feed` and over `frames`.
 
 A loop in C calls the C library. The plain extension is encode and decode as one writes them by hand in C, with loops
 over the bytes, and with CPython's full interface. This script compiles the loop and the plain extension. A time is the
@@ -27,7 +28,7 @@ import setup  # noqa: E402
 import jcobs  # noqa: E402
 from jcobs import _plain  # noqa: E402
 
-LENGTHS = [8, 20, 64, 256, 1024, 4096, 65536]
+LENGTHS = [20, 1024, 65536]
 ROUNDS = 15
 
 LOOP = r"""
@@ -177,9 +178,13 @@ def made(length, at_random):
     return bytes(source.randrange(1, 256) * (source.randrange(16) > 0) for _ in range(length))
 
 
-def fed(decode):
-    """What decodes a chunk of 32 frames."""
-    return lambda chunk: decode(chunk, (jcobs.Message, jcobs.Broken, jcobs.TooLong))
+def by_feed(decoder):
+    """A loop over the outcomes of a log that `Decoder.feed` returns."""
+    return lambda log: [None for at in range(0, len(log), 65536) for _ in decoder.feed(log[at : at + 65536])]
+
+
+def by_frames(length):
+    return lambda log: [None for _ in jcobs.frames(log, length)]
 
 
 def measured(program, plain_extension, length, at_random):
@@ -189,26 +194,29 @@ def measured(program, plain_extension, length, at_random):
     assert plain_extension.encode(message) == frame and plain_extension.decode(frame) == message
     chunk = frame + b"\0"
     count = max(10, 4_000_000 // (length + 400))
-    feed = jcobs.Decoder(length).feed
+    decoder, plain = jcobs.Decoder(length), _plain.Decoder(length, 0, jcobs._streams.CLASSES)
+    in_log = 4 * 65536 // len(chunk)
+    log = chunk * in_log
     rows = {
         "encode": (jcobs.encode, plain_extension.encode, _plain.encode, message, 1),
         "decode": (jcobs.decode, plain_extension.decode, _plain.decode, frame, 1),
-        "feed of 1 frame": (feed, None, fed(_plain.Decoder(length, 0).feed), chunk, 1),
-        "feed of 32, per frame": (feed, None, fed(_plain.Decoder(length, 0).feed), chunk * 32, 32),
+        "feed of 1 frame": (decoder.feed, None, plain.feed, chunk, 1),
+        "log by feed, per frame": (by_feed(decoder), None, by_feed(plain), log, in_log),
+        "log by frames, per frame": (by_frames(length), None, None, log, in_log),
     }
     best = {name: [9e9] * 4 for name in rows}
     for _ in range(ROUNDS):
         ran = subprocess.run([program, str(length), str(count)], input=message, stdout=subprocess.PIPE, check=True)
         encoding, decoding, feeding = map(float, ran.stdout.split())
-        for (name, (ours, extension, plain, argument, frames)), c in zip(
-            rows.items(), (encoding, decoding, feeding, feeding)
+        for (name, (ours, extension, in_python, argument, frames)), c in zip(
+            rows.items(), (encoding, decoding, feeding, feeding, feeding)
         ):
             turns = max(1, count // frames)
             found = [
                 timed(ours, argument, turns) / frames,
                 c,
                 timed(extension, argument, turns) if extension else 9e9,
-                timed(plain, argument, max(1, turns // 100)) / frames,
+                timed(in_python, argument, max(1, turns // 100)) / frames if in_python else 9e9,
             ]
             best[name] = [min(pair) for pair in zip(best[name], found)]
     return best

@@ -94,7 +94,8 @@ def extensions():
             define_macros=[
                 ("Py_LIMITED_API", "0x03090000"),
                 ("JCOBS_PACKAGE", f'"{version()}"'),
-                *([] if found else [("JCOBS_COMPILED", "1")]),
+                # JCOBS_FAST: jcobs.c for a host
+                *([] if found else [("JCOBS_COMPILED", "1"), ("JCOBS_FAST", "1")]),
             ],
             extra_objects=[str(found)] if found else [],
             extra_compile_args=["-std=c99", "-fvisibility=hidden"] if linux else [],

@@ -4,15 +4,17 @@ To send, call `transport.write(jcobs.encode(message, terminated=True))`.
 """
 
 import asyncio
-from typing import Callable
+from typing import Callable, Union
 
 import jcobs
+
+Outcome = Union[jcobs.Message, jcobs.Broken, jcobs.TooLong]
 
 
 class Frames(asyncio.Protocol):
     """Passes the outcome of each frame to `received`."""
 
-    def __init__(self, received: Callable[[jcobs.Outcome], None]) -> None:
+    def __init__(self, received: Callable[[Outcome], None]) -> None:
         self._decoder = jcobs.Decoder()
         self._received = received
 

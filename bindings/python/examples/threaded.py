@@ -1,16 +1,18 @@
 """Receives frames in a thread of pyserial, which serial.threaded.ReaderThread(port, lambda: Frames(received)) makes."""
 
-from typing import Callable
+from typing import Callable, Union
 
 import serial.threaded
 
 import jcobs
 
+Outcome = Union[jcobs.Message, jcobs.Broken, jcobs.TooLong]
+
 
 class Frames(serial.threaded.Protocol):
     """Passes the outcome of each frame to `received`, in the thread that reads. `send` sends a message."""
 
-    def __init__(self, received: Callable[[jcobs.Outcome], None]) -> None:
+    def __init__(self, received: Callable[[Outcome], None]) -> None:
         self._decoder = jcobs.Decoder()
         self._received = received
 

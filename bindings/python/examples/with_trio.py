@@ -10,12 +10,14 @@ nothing is lost:
     await receive(reader, received)
 """
 
-from typing import Callable
+from typing import Callable, Union
 
 import jcobs
 
+Outcome = Union[jcobs.Message, jcobs.Broken, jcobs.TooLong]
 
-async def receive(reader: jcobs.AsyncFrameReader, received: Callable[[jcobs.Outcome], None]) -> None:
+
+async def receive(reader: jcobs.AsyncFrameReader, received: Callable[[Outcome], None]) -> None:
     """Passes the outcome of each frame to `received`, until the stream ends."""
     async for outcome in reader:
         received(outcome)

@@ -22,9 +22,6 @@ def check(sentinel):
         frame = jcobs.encode(message, sentinel=sentinel, terminated=True)
         assert frame == bytes(byte ^ sentinel for byte in plain.encode(message) + b"\0")
         assert jcobs.decode(memoryview(frame), sentinel=sentinel) == message
-        for make in (bytearray, memoryview):
-            buffer = make(bytearray(jcobs.max_length(len(message)) - len(message)) + message)
-            assert frame[:-1] == buffer[: jcobs.encode_in_place(buffer, len(message), sentinel=sentinel)]
         encoder.feed(array("B", message))
         assert encoder.finish(terminated=True) == frame
         assert decoder.feed(bytearray(frame)) == [jcobs.Message(message)]
@@ -53,7 +50,7 @@ def check_readers():
         device.write(b"late")
         replies = threading.Thread(target=lambda: device.write(device.read(60).data.upper()))
         replies.start()
-        assert reader.request(b"ask", timeout=60, discard=True) == b"ASK"
+        assert reader.request(b"ask", timeout=60) == b"ASK"
         replies.join()
     assert bytes(jcobs.Message(b"hi")) == b"hi" and jcobs.Message(b"")
     assert [one.data for one in jcobs.frames(b"\x03hi\0" * 3)] == [b"hi"] * 3
@@ -122,7 +119,9 @@ class Own:
 
 
 def check_errors_of_a_buffer():
-    wanted = "by the object" if sys.version_info >= (3, 12) else "data must be a bytes-like object, not Own"
+    wanted = (
+        "by the object" if sys.version_info >= (3, 12) else "memoryview: a bytes-like object is required, not 'Own'"
+    )
     try:
         jcobs.encode(Own())
     except TypeError as error:
@@ -164,11 +163,11 @@ def check_subinterpreters():
 
 def check_counts_of_immortal_objects():
     """From 3.12 on bytes of length 1 are shared by all interpreters, so a call leaves their count as it is."""
-    counts = []
-    decoder = jcobs._backend.core.Decoder(9, 0)
-    decoder.feed(b"\x01", (bytes,) * 3)
-    decoder.feed(b"\0", (lambda data: counts.append(sys.getrefcount(b"\0")),) * 3)
-    assert sys.version_info < (3, 12) or counts == [sys.getrefcount(b"\0")], counts
+    decoder = jcobs._backend.core.Decoder(9, 0, jcobs._streams.CLASSES)
+    counts = [sys.getrefcount(b"\0")]
+    decoder.push(b"\0")  # which refers to it until it is decoded
+    counts.append(sys.getrefcount(b"\0"))
+    assert sys.version_info < (3, 12) or counts[0] == counts[1], counts
 
 
 def check_interpreters_at_once():

@@ -1,4 +1,4 @@
-"""encode, encode_in_place, decode, max_length, frame_kind: what they return, and which arguments they take."""
+"""encode, decode, max_frame_length, frame_kind: what they return, and which arguments they take."""
 
 import array
 import ctypes
@@ -31,95 +31,8 @@ def xored(data, sentinel):
 def test_encode_gives_the_plain_frame(message, sentinel, terminated):
     frame = jcobs.encode(message, sentinel=sentinel, terminated=terminated)
     assert frame == xored(plain.encode(message), sentinel) + bytes([sentinel] * terminated)
-    assert len(frame) - terminated <= jcobs.max_length(len(message))
+    assert len(frame) - terminated <= jcobs.max_frame_length(len(message))
     assert jcobs.decode(frame, sentinel=sentinel) == message
-
-
-def laid(message, before=b"", after=b""):
-    """A buffer with a message where `encode_in_place` looks for it; it has no byte too many."""
-    free = jcobs.max_length(len(message)) - len(message)
-    return bytearray((before + bytes(free))[:free] + message + after)
-
-
-@given(MESSAGES, SENTINELS, st.binary(min_size=5, max_size=9), st.binary(max_size=3))
-def test_encode_in_place_gives_the_plain_frame(message, sentinel, before, after):
-    for buffer in (laid(message, before, after), laid(message, before)):
-        frame = xored(plain.encode(message), sentinel)
-        rest = buffer[len(frame) :]
-        assert jcobs.encode_in_place(buffer, len(message), sentinel=sentinel) == len(frame)
-        assert buffer == frame + rest
-
-
-@given(st.integers(1, 2000))
-def test_encode_in_place_takes_no_shorter_buffer(length):
-    room = jcobs.max_length(length)
-    for short in (0, room // 2, length, room - 1):
-        buffer = bytearray(b"\x01" * short)
-        with pytest.raises(
-            ValueError, match=rf"^buffer must have max_length\({length}\) = {room} bytes .* not {short}$"
-        ):
-            jcobs.encode_in_place(buffer, length, sentinel=9)
-        assert buffer == b"\x01" * short
-    with pytest.raises(ValueError, match="^buffer must have "):
-        jcobs.encode_in_place(bytearray(5), 2**63 - 1)
-
-
-@pytest.mark.parametrize(
-    "make",
-    [
-        bytearray,
-        lambda data: memoryview(bytearray(b"!" + data))[1:],
-        lambda data: memoryview(bytearray(data)).cast("B", (2, len(data) // 2)),
-        lambda data: array.array("B", data),
-        lambda data: array.array("H", bytes(data)),
-        lambda data: (ctypes.c_uint16 * (len(data) // 2)).from_buffer_copy(data),
-    ],
-)
-@pytest.mark.parametrize("length", [1, 3, 507, 509, 100_000 + 5])
-def test_encode_in_place_in_any_writable_object(make, length):
-    message = random.Random(length).randbytes(length)
-    data = laid(message, after=b"?" * 2)
-    buffer = make(data[: len(data) // 2 * 2])
-    frame = plain.encode(message)
-    assert jcobs.encode_in_place(buffer, length) == len(frame)
-    assert memoryview(buffer).tobytes() == frame + data[len(frame) : len(data) // 2 * 2]
-
-
-def test_encode_in_place_in_mapped_memory():
-    with mmap.mmap(-1, mmap.PAGESIZE) as mapped:
-        message = bytes(range(256)) * 20
-        message = message[: mmap.PAGESIZE - 17]  # its longest frame ends with the page
-        mapped[:] = bytes(laid(message))
-        frame = mapped[: jcobs.encode_in_place(mapped, len(message), sentinel=1)]
-        assert frame == jcobs.encode(message, sentinel=1)
-    with mmap.mmap(-1, mmap.PAGESIZE, access=mmap.ACCESS_READ) as mapped:
-        with pytest.raises(TypeError, match="^buffer must be a read-write bytes-like object, not mmap$"):
-            jcobs.encode_in_place(mapped, 5)
-
-
-@pytest.mark.parametrize("buffer", [b"\0hello", memoryview(b"\0hello"), "\0hello", 5, None, [0, 1, 2]])
-def test_encode_in_place_takes_nothing_that_it_cannot_write_to(buffer):
-    wanted = f"^buffer must be a read-write bytes-like object, not {type(buffer).__name__}$"
-    with pytest.raises(TypeError, match=wanted):
-        jcobs.encode_in_place(buffer, 1)
-
-
-def test_encode_in_place_takes_nothing_that_is_not_contiguous():
-    for buffer in (memoryview(bytearray(9))[::2], memoryview(bytearray(9))[::-1], memoryview(b"abcdef")[::2]):
-        with pytest.raises(BufferError, match="^buffer is not contiguous$"):
-            jcobs.encode_in_place(buffer, 1)
-
-
-def test_a_buffer_is_free_after_encoding_in_place():
-    for data in (laid(b"hello"), array.array("B", laid(b"hello"))):
-        size = len(data)
-        for buffer in (data, memoryview(data)):
-            jcobs.encode_in_place(buffer, 5)
-            with pytest.raises(ValueError, match="not 6"):
-                jcobs.encode_in_place(buffer, 6)
-        buffer.release()
-        data.extend(b"!")
-        assert len(data) == size + 1
 
 
 @given(MESSAGES, SENTINELS)
@@ -153,7 +66,7 @@ def test_long_messages(length, sentinel):
     message = random.Random(length).randbytes(length)
     frame = jcobs.encode(message, sentinel=sentinel)
     assert frame == jcobs.encode(bytearray(message), sentinel=sentinel)
-    assert sentinel not in frame and length < len(frame) <= jcobs.max_length(length)
+    assert sentinel not in frame and length < len(frame) <= jcobs.max_frame_length(length)
     assert jcobs.decode(frame, sentinel=sentinel) == message
     assert jcobs.decode(memoryview(frame), sentinel=sentinel) == message
     assert jcobs.frame_kind(frame, sentinel=sentinel) == "canonical"
@@ -178,6 +91,15 @@ def test_wider_items_and_mapped_memory():
         assert jcobs.encode(mapped) == jcobs.encode(b"hello" + bytes(4091))
     grid = memoryview(bytes(range(12))).cast("B", (3, 4))
     assert jcobs.encode(grid) == jcobs.encode(bytes(range(12)))
+
+
+def test_an_array_of_fortran_is_not_contiguous():
+    buffers = pytest.importorskip("_testbuffer", reason="CPython's own test module makes such arrays")
+    grid = buffers.ndarray(list(range(6)), shape=[2, 3], flags=buffers.ND_FORTRAN)
+    assert memoryview(grid).contiguous
+    for call in (jcobs.encode, jcobs.decode, jcobs.frame_kind, jcobs.Decoder().feed, jcobs.Encoder().feed):
+        with pytest.raises(BufferError, match="not contiguous"):
+            call(grid)
 
 
 @pytest.mark.parametrize("size", [0, 5, 100_000])
@@ -216,7 +138,7 @@ def test_wrong_objects(call):
         with pytest.raises(BufferError, match="not contiguous"):
             call(data)
     for data in ("hello", 5, None, [1, 2]):
-        with pytest.raises(TypeError, match="bytes-like"):
+        with pytest.raises(TypeError, match="bytes-like object|buffer interface"):
             call(data)
 
 
@@ -224,7 +146,6 @@ def test_wrong_objects(call):
     "call",
     [
         lambda sentinel: jcobs.encode(b"", sentinel=sentinel),
-        lambda sentinel: jcobs.encode_in_place(bytearray(1), 0, sentinel=sentinel),
         lambda sentinel: jcobs.decode(b"\x01", sentinel=sentinel),
         lambda sentinel: jcobs.frame_kind(b"\x01", sentinel=sentinel),
         lambda sentinel: jcobs.Decoder(sentinel=sentinel),
@@ -240,9 +161,7 @@ def test_wrong_sentinels(call):
             call(sentinel)
 
 
-@pytest.mark.parametrize(
-    "call", [jcobs.max_length, jcobs.Decoder, jcobs.Encoder, lambda length: jcobs.encode_in_place(bytearray(9), length)]
-)
+@pytest.mark.parametrize("call", [jcobs.max_frame_length, jcobs.Decoder, jcobs.Encoder])
 def test_wrong_lengths(call):
     with pytest.raises(ValueError, match="negative"):
         call(-1)
@@ -252,12 +171,12 @@ def test_wrong_lengths(call):
         call(1.5)
 
 
-def test_max_length():
-    assert [jcobs.max_length(n) for n in (0, 1, 254, 255, 508, 509)] == [1, 2, 255, 257, 510, 512]
+def test_max_frame_length():
+    assert [jcobs.max_frame_length(n) for n in (0, 1, 254, 255, 508, 509)] == [1, 2, 255, 257, 510, 512]
 
 
 def test_options_are_keywords():
-    for call in (jcobs.encode, jcobs.decode, jcobs.frame_kind, lambda data, zero: jcobs.encode_in_place(data, 0, zero)):
+    for call in (jcobs.encode, jcobs.decode, jcobs.frame_kind):
         with pytest.raises(TypeError, match="positional argument"):
             call(bytearray(b"\x01"), 0)
 
@@ -271,6 +190,7 @@ def test_decode_error():
     assert str(error) == "the frame breaks off inside a block, after 4 decoded bytes"
     again = pickle.loads(pickle.dumps(error))
     assert (again.kind, again.data) == (error.kind, error.data)
+    assert b"cjcobs\nDecodeError\n" in pickle.dumps(error, 0)  # not a module of its inside
     with pytest.raises(jcobs.DecodeError, match="there is no frame"):
         jcobs.decode(b"\0\0")
 

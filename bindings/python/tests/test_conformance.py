@@ -37,19 +37,16 @@ def word_of(data):
 
 
 def max_encoding_length(length):
-    return [jcobs.max_length(int(length))]
+    return [jcobs.max_frame_length(int(length))]
 
 
 def max_encoding_overhead(length):
-    return [jcobs.max_length(int(length)) - int(length)]
+    return [jcobs.max_frame_length(int(length)) - int(length)]
 
 
 def encode_vec(word):
     message = of_word(word)
-    frame = jcobs.encode(message)
-    buffer = bytearray(jcobs.max_length(len(message)) - len(message)) + message
-    assert buffer[: jcobs.encode_in_place(buffer, len(message))] == frame
-    return [word_of(frame)]
+    return [word_of(jcobs.encode(message))]
 
 
 def encode_vec_including_sentinels(message):

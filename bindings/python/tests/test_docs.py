@@ -18,32 +18,24 @@ import jcobs
 README = Path(__file__).resolve().parent.parent / "README.md"
 
 
-@pytest.mark.parametrize(
-    "name, least",
-    [
-        ("jcobs", 4),
-        (jcobs.encode.__module__, 7),
-        ("jcobs._frames", 4),
-        ("jcobs._streams", 13),
-        ("jcobs._readers", 14),
-        ("jcobs._async", 3),
-        ("jcobs.compat", 5),
-    ],
-)
+@pytest.mark.parametrize("name, least", [("jcobs", 40), ("jcobs.compat", 5)])
 def test_docstrings(name, least):
     module = importlib.import_module(name)
     names = {"jcobs": jcobs, "cobs": module}
-    result = doctest.testmod(module, extraglobs=names, raise_on_error=False)
-    assert result.failed == 0 and result.attempted >= least
+    runner = doctest.DocTestRunner()
+    # `module=False`: the methods are those of the modules that the package takes its names from
+    for examples in doctest.DocTestFinder().find(module, module=False, globs=names):
+        runner.run(examples)
+    assert runner.failures == 0 and runner.tries >= least
 
 
 def test_each_public_name_has_a_docstring():
     for name in jcobs.__all__:
         value = getattr(jcobs, name)
-        if name != "Outcome":
-            assert value.__doc__, name
-            for method, member in vars(value).items() if isinstance(value, type) else ():
-                assert method.startswith("_") or member.__doc__, f"{name}.{method}"
+        assert value.__doc__, name
+        assert name == "backend" or value.__module__ == "jcobs"
+        for method, member in vars(value).items() if isinstance(value, type) else ():
+            assert method.startswith("_") or member.__doc__, f"{name}.{method}"
 
 
 def readme_blocks(language):
@@ -68,14 +60,14 @@ def test_readme_request_and_reply(terminals, monkeypatch, capsys):
     monkeypatch.setattr(serial, "Serial", lambda name, baud: port)
     device = jcobs.FrameReader(end)
     block = readme_blocks("python")[0]
-    assert "timeout=0.5, discard=True" in block
+    assert "timeout=0.5)" in block
     late = threading.Event()
 
     def reply():
-        end.write(b"\x05late\0\x03o")
+        end.write(b"\x05late\0\x06late")
         late.set()
         assert device.read(timeout=60) == jcobs.Message(b"status?")
-        for part in (b"\x03o", b"k\0", b"\x05a\0"):
+        for part in (b"r\0", b"\x03o", b"k\0", b"\x05a\0"):
             end.write(part)
         while not b"".join(got).endswith(b"\x05a\0"):
             time.sleep(0.001)

@@ -29,13 +29,11 @@ CALLS = {
     "encode": lambda: jcobs.encode(b"a" * 5000),
     "encode a bytearray": lambda: jcobs.encode(bytearray(b"a" * 500)),
     "encode a memoryview": lambda: jcobs.encode(memoryview(b"a" * 500), sentinel=5),
-    "encode_in_place": lambda: jcobs.encode_in_place(bytearray(1000), 500),
-    "encode_in_place in a memoryview": lambda: jcobs.encode_in_place(memoryview(bytearray(1000)), 500, sentinel=5),
     "decode": lambda: jcobs.decode(b"\x06hello\0" + b"a" * 5000),
     "decode for a sentinel": lambda: jcobs.decode(b"\x07idmmn", sentinel=1),
     "decode a broken frame": broken,
     "frame_kind": lambda: jcobs.frame_kind(b"\x07idmmn" * 20, sentinel=1),
-    "max_length": lambda: jcobs.max_length(1 << 50),
+    "max_frame_length": lambda: jcobs.max_frame_length(1 << 50),
     "coders": coders,
     "outcomes": lambda: (repr(jcobs.Message(b"hi")), hash(jcobs.Broken(b"hi")), jcobs.TooLong(b"hi") == 5),
 }
@@ -132,7 +130,7 @@ def test_a_message_is_gone_after_a_finish_without_memory():
 
 
 def test_no_room_for_a_buffer():
-    for make in (jcobs.Decoder, jcobs.Encoder):
+    for make in (jcobs.Decoder, jcobs.Encoder)[jcobs.backend == "python" :]:  # a plain decoder has no buffer
         with pytest.raises(MemoryError):
             make(sys.maxsize - 1)
 
@@ -164,7 +162,6 @@ def test_a_million_calls_without_growth():
         decoder, encoder = jcobs.Decoder(100), jcobs.Encoder(100)
         for _ in range(count):
             jcobs.encode(view)
-            jcobs.encode_in_place(view, 5)
             jcobs.decode(frame)
             jcobs.frame_kind(frame, sentinel=3)
             decoder.feed(b"\x03hi\0\x05a\0")
@@ -189,7 +186,7 @@ def test_a_million_calls_without_growth():
 
     some(5_000)
     before = resident()
-    some(8_000 if jcobs.backend == "python" else 80_000)  # sixteen calls each
+    some(8_000 if jcobs.backend == "python" else 80_000)  # fifteen calls each
     assert resident() - before < 1_000_000
 
 

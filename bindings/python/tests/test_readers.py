@@ -70,12 +70,11 @@ def test_nothing_is_lost_between_iterations():
 
 def test_read_gives_one_outcome_and_the_end_is_no_timeout():
     reader = jcobs.FrameReader(io.BytesIO(STREAM), max_length=5)
-    assert [reader.read(), next(reader), reader.read(timeout=1)] == OUTCOMES
+    assert [reader.read(), next(iter(reader)), reader.read(timeout=1)] == OUTCOMES
     for timeout in (None, 0, 1):
         with pytest.raises(EOFError, match="the stream ended inside a frame"):
             reader.read(timeout)
-    with pytest.raises(StopIteration):
-        next(reader)
+    assert list(reader) == []
     with pytest.raises(EOFError, match="the stream ended$"):
         jcobs.FrameReader(io.BytesIO(b"")).read()
 
@@ -87,7 +86,7 @@ def test_messages_alone():
 
 class Failing:
     def __init__(self):
-        self.reads = [b"\x03h", KeyboardInterrupt(), b"i\0", b""]
+        self.reads = [b"\x03h", OSError(), b"i\0", b""]
 
     def read(self, size):
         given = self.reads.pop(0)
@@ -98,16 +97,9 @@ class Failing:
 
 def test_nothing_is_lost_by_a_read_that_fails():
     reader = jcobs.FrameReader(Failing())
-    with pytest.raises(KeyboardInterrupt):
+    with pytest.raises(OSError):
         list(reader)
     assert list(reader) == [jcobs.Message(b"hi")]
-
-
-def test_messages_go_on_after_a_read_that_fails():
-    messages = jcobs.FrameReader(Failing()).messages()
-    with pytest.raises(KeyboardInterrupt):
-        next(messages)
-    assert list(messages) == [b"hi"]
 
 
 @contextlib.contextmanager
@@ -260,6 +252,9 @@ def test_wrong_timeouts():
     assert jcobs.FrameReader(io.BytesIO(b"\x03hi\0")).read(Fraction(1, 3)) == jcobs.Message(b"hi")
     with pytest.raises(TypeError, match="Failing has no fileno"):
         jcobs.FrameReader(Failing()).read(timeout=1)
+    with ends("socket") as (sock, end), sock.makefile("rwb") as file:  # which would wait for ever
+        with pytest.raises(TypeError, match="BufferedRWPair has no fileno"):
+            jcobs.FrameReader(file).read(timeout=1)
 
 
 def test_wrong_files(tmp_path):
@@ -309,6 +304,28 @@ def test_a_timeout_of_0_does_not_wait(kind):
             assert reader.read(timeout=0) is None
         # the time beyond that of the processor, which a busy machine makes longer, and each wait
         assert time.monotonic() - begun[1] < 10
+
+
+def test_a_timeout_of_0_reads_once():
+    """More bytes are there at once, and the frame ends in them."""
+
+    class Sock:
+        left = [b"\x03", b"h", b"i", b"\0"]
+
+        def fileno(self):
+            return readable
+
+        def recv(self, size):
+            return self.left.pop(0)
+
+    readable, sink = os.pipe()
+    os.write(sink, b"!")
+    reader = jcobs.FrameReader(Sock())
+    for left in (3, 2, 1):
+        assert reader.read(timeout=0) is None and len(Sock.left) == left
+    assert reader.read(timeout=0) == jcobs.Message(b"hi")
+    os.close(readable)
+    os.close(sink)
 
 
 def test_bytes_that_pyopenssl_has_decrypted_are_asked_for():

@@ -40,6 +40,76 @@ def test_request():
             replies.join()
 
 
+def echo(device, messages):
+    """A thread that replies to each of so many messages with the message in capitals."""
+    return in_background(*[lambda: device.write(device.read(60).data.upper())] * messages)
+
+
+def test_threads_that_request_at_once_get_their_own_replies():
+    found = []
+    with link() as (reader, device):
+
+        def work(letter):
+            for number in range(100):
+                found.append((letter + b"%d" % number, reader.request(letter + b"%d" % number, 60)))
+
+        replies = echo(device, 400)
+        workers = [threading.Thread(target=work, args=(letter,)) for letter in (b"a", b"b", b"c", b"d")]
+        for worker in workers:
+            worker.start()
+        for worker in [*workers, replies]:
+            worker.join()
+        assert reader.read(timeout=0) is None
+    assert len(found) == 400 and all(reply == message.upper() for message, reply in found)
+
+
+def test_a_request_that_is_refused_has_sent_nothing():
+    """Another thread reads, or a signal handler calls in the middle of a request."""
+    with link() as (reader, device):
+        waits = threading.Event()
+        own = reader._read
+        reader._read = lambda *words: waits.set() or own(*words)
+        listener = in_background(lambda: reader.read(60))
+        assert waits.wait(60)
+        for discard in (False, True):
+            with pytest.raises(RuntimeError, match="^the reader is in use by another call$"):
+                reader.request(b"launch", 60, discard=discard)
+        device.write(b"hi")
+        listener.join()
+        refused = []
+
+        def within(*words):
+            reader._read = own
+            with pytest.raises(RuntimeError, match="in use by another call"):
+                reader.request(b"launch", 60)
+            refused.append(True)
+            return own(*words)
+
+        reader._read = within
+        replies = echo(device, 1)
+        assert reader.request(b"ask", 60) == b"ASK" and refused
+        replies.join()
+        assert device.read(timeout=0.05) is None
+
+
+def test_no_other_call_takes_the_reply_to_a_request():
+    with link() as (reader, device):
+        own, refused = reader._read, []
+
+        def after(*words):
+            count = own(*words)
+            for call in (lambda: reader.read(timeout=0), lambda: next(iter(reader))):
+                with pytest.raises(RuntimeError, match="^the reader is in use by another call$"):
+                    call()
+                refused.append(count)
+            return count
+
+        reader._read = after
+        replies = echo(device, 1)
+        assert reader.request(b"ask", 60) == b"ASK" and refused
+        replies.join()
+
+
 @pytest.mark.usefixtures("patient")
 def test_a_late_reply_is_not_taken_for_the_next():
     with link() as (reader, device):
@@ -48,11 +118,35 @@ def test_a_late_reply_is_not_taken_for_the_next():
         assert device.read(60) == jcobs.Message(b"first")
         device.write(b"late")
         replies = in_background(lambda: device.read(60), lambda: device.write(b"second"))
-        assert reader.request(b"ask", timeout=60, discard=True) == b"second"
+        assert reader.request(b"ask", timeout=60) == b"second"
         replies.join()
         # without `discard` it is, which is why there is one
         device.write(b"late again")
-        assert reader.request(b"ask", timeout=60) == b"late again"
+        assert reader.request(b"ask", timeout=60, discard=False) == b"late again"
+
+
+@pytest.mark.parametrize("cut", range(1, 11))
+def test_a_late_reply_that_pauses_is_not_taken_for_the_next(cut):
+    """Its rest comes after the request was sent, and would be a message: it begins with a block."""
+    with link() as (reader, device):
+        late = jcobs.encode(b"temp=\0\0\0\0no", terminated=True)
+        raw(device, late[:cut])
+
+        def reply():
+            assert device.read(60) == jcobs.Message(b"ask")
+            raw(device, late[cut:])
+            device.write(b"second")
+
+        replies = in_background(reply)
+        assert reader.request(b"ask", timeout=60) == b"second"
+        replies.join()
+        raw(device, b"\x05stop")
+        with pytest.raises(TimeoutError):
+            reader.request(b"ask", timeout=0.05)  # the frame that has begun doesn't end
+        raw(device, b"\0")
+        replies = in_background(lambda: device.read(60), lambda: device.read(60), lambda: device.write(b"second"))
+        assert reader.request(b"ask", timeout=60) == b"second"
+        replies.join()
 
 
 @pytest.mark.usefixtures("patient")
@@ -66,8 +160,8 @@ def test_a_late_reply_over_a_serial_port(pair):
     assert device.read(60) == jcobs.Message(b"first")
     while port.in_waiting < 9:  # until the terminal has passed them on
         time.sleep(0.001)
-    replies = in_background(lambda: device.read(60), lambda: device.write(b"second"))
-    assert reader.request(b"second", timeout=60, discard=True) == b"second"
+    replies = in_background(lambda: device.read(60), lambda: end.write(b"ha\0"), lambda: device.write(b"second"))
+    assert reader.request(b"second", timeout=60) == b"second"
     replies.join()
 
 
@@ -79,13 +173,13 @@ def test_what_a_request_raises():
         ):
             raw(device, frame)
             with pytest.raises(jcobs.DecodeError, match=text) as raised:
-                reader.request(b"ask", 60)
+                reader.request(b"ask", 60, discard=False)
             assert (raised.value.kind, raised.value.data) == (kind, data)
             assert device.read(60) == jcobs.Message(b"ask")
         for timeout, error in ((-1, ValueError), ("1", TypeError), (b"1", TypeError), ([], TypeError)):
             with pytest.raises(error, match="timeout must"):
                 reader.request(b"ask", timeout)
-        with pytest.raises(TypeError, match="data must be a bytes-like object"):
+        with pytest.raises(TypeError, match="bytes-like object|buffer interface"):
             reader.request("ask", 1)
         assert device.read(timeout=0.05) is None  # nothing was sent
         device.close()
@@ -100,27 +194,9 @@ def test_discard_drops_what_has_come():
         raw(device, b"\x03hi\0\x03ho\0\x05a")
         assert reader.read(60) == jcobs.Message(b"hi")
         reader.discard()
-        assert not reader.unfinished and reader.read(timeout=0) is None
-        device.write(b"next")
-        assert reader.read(60) == jcobs.Message(b"next")
-        reader.discard(quiet=0)
-        with pytest.raises(ValueError, match="timeout must not be negative"):
-            raw(device, b"\x05a")
-            reader.discard(quiet=-1)
-            reader.discard(quiet=-1)
-
-
-@pytest.mark.usefixtures("patient")
-def test_discard_drops_the_rest_of_a_frame_that_is_on_its_way():
-    """Without that the rest would be read as a message: it begins with a block."""
-    with link() as (reader, device):
-        frame = jcobs.encode(b"set\0speed\0to\x0099", terminated=True)
-        raw(device, frame[:4])
-        rest = in_background(
-            *(lambda at=at: (time.sleep(0.002), raw(device, frame[at : at + 1])) for at in range(4, len(frame)))
-        )
-        reader.discard(quiet=60)
-        rest.join()
+        assert reader.unfinished and reader.read(timeout=0) is None
+        raw(device, b"b\0")
+        assert reader.read(timeout=0.01) is None and not reader.unfinished
         device.write(b"next")
         assert reader.read(60) == jcobs.Message(b"next")
 
@@ -164,7 +240,7 @@ def test_discard_at_the_end_of_a_stream():
         raw(device, b"\x03hi\0\x05a")
         device.close()
         reader.discard()
-        with pytest.raises(EOFError, match="the stream ended$"):
+        with pytest.raises(EOFError, match="the stream ended inside a frame$"):
             reader.read()
 
 
@@ -220,12 +296,19 @@ def test_requests_over_asyncio():
             with pytest.raises(TimeoutError, match="no reply came in time"):
                 await reader.request(b"ask", 0.01)
             await reply(b"late")
-            device._writer.write(b"\x05ab")
+            device._writer.write(b"\x05a\0\x06a")
             await asyncio.sleep(0.1)
-            _, data = await asyncio.gather(reply(b"second", b"1" * 101), reader.request(b"ask", 60, discard=True))
+
+            async def rest():
+                assert isinstance(await device.read(), jcobs.Message)
+                device._writer.write(b"\x03no\0")
+                await device.write(b"second")
+                await device.write(b"1" * 101)
+
+            _, data = await asyncio.gather(rest(), reader.request(b"ask", 60))
             assert data == b"second"
             with pytest.raises(jcobs.DecodeError, match="longer than max_length=100"):
-                await reader.request(b"ask", 60)
+                await reader.request(b"ask", 60, discard=False)
             await reply()
             with pytest.raises(TypeError, match="timeout must"):
                 await reader.request(b"ask", "1")
@@ -236,26 +319,61 @@ def test_requests_over_asyncio():
     asyncio.run(run())
 
 
+def test_requests_at_once_over_asyncio():
+    async def run():
+        async with connection() as (reader, device):
+
+            async def echo():
+                async for message in device.messages():
+                    await device.write(message.upper())
+
+            task = asyncio.ensure_future(echo())
+            asked = [b"a%d" % number for number in range(30)]
+            assert await asyncio.gather(*(reader.request(one, 60) for one in asked)) == [one.upper() for one in asked]
+            late = asyncio.ensure_future(reader.request(b"cancelled", 60))
+            waiting = asyncio.ensure_future(reader.request(b"after it", 60))
+            await asyncio.sleep(0)
+            late.cancel()
+            assert await waiting in (b"AFTER IT", b"CANCELLED")
+            task.cancel()
+
+    asyncio.run(run())
+
+
+def test_a_request_over_asyncio_that_is_refused_has_sent_nothing():
+    async def run():
+        async with connection() as (reader, device):
+            listener = asyncio.ensure_future(reader.read())
+            await asyncio.sleep(0)
+            for discard in (False, True):
+                with pytest.raises(RuntimeError, match="^the reader is in use by another call$"):
+                    await reader.request(b"launch", 60, discard=discard)
+            for call in (reader.read, reader.__anext__, reader.discard):
+                with pytest.raises(RuntimeError, match="^the reader is in use by another call$"):
+                    await call()
+            await device.write(b"hi")
+            assert await listener == jcobs.Message(b"hi")
+            assert await device.read(timeout=0.05) is None
+
+    asyncio.run(run())
+
+
 @pytest.mark.usefixtures("patient")
 def test_discard_over_asyncio_drops_the_rest_of_a_frame_that_is_on_its_way():
     async def run():
         stream = asyncio.StreamReader()
         reader = jcobs.AsyncFrameReader(stream)
         frame = jcobs.encode(b"set\0speed\0to\x0099", terminated=True)
-
-        async def rest():
-            for at in range(4, len(frame)):
-                await asyncio.sleep(0.002)
-                stream.feed_data(frame[at : at + 1])
-
         stream.feed_data(b"\x03hi\0" * 3 + frame[:4])
         assert await reader.read() == jcobs.Message(b"hi")
-        await asyncio.gather(reader.discard(quiet=60), rest())
+        await reader.discard()
+        assert reader.unfinished
+        for at in range(4, len(frame)):
+            stream.feed_data(frame[at : at + 1])
+            assert await reader.read(timeout=0) is None
         stream.feed_data(b"\x03ho\0\x05a")
         assert await reader.read(timeout=60) == jcobs.Message(b"ho")
         assert await reader.read(timeout=0) is None
-        await reader.discard()
-        assert not reader.unfinished
         await reader.close()  # which has nothing to close
 
     asyncio.run(run())

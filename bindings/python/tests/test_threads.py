@@ -1,12 +1,9 @@
 """Threads, interruptions and subinterpreters."""
 
-import gc
-import signal
 import subprocess
 import sys
 import textwrap
 import threading
-import time
 
 import pytest
 
@@ -41,7 +38,7 @@ def lets_others_run(call):
         jcobs.decode,
         jcobs.frame_kind,
         lambda data: jcobs.Decoder(len(data)).feed(data),
-        lambda data: jcobs.Decoder(len(data), 7).feed(data),
+        lambda data: jcobs.Decoder(len(data), 7).feed(data.replace(b"\x01", b"\0")),
         lambda data: jcobs.Encoder(len(data)).feed(data),
     ],
     ids=["encode", "decode", "frame_kind", "Decoder.feed", "Decoder.feed for another sentinel", "Encoder.feed"],
@@ -55,66 +52,6 @@ def test_long_calls_release_the_gil(call, make):
 
 def test_short_calls_keep_the_gil():
     assert not lets_others_run(lambda: [jcobs.encode(b"hello") for _ in range(1000)])
-
-
-SMALL = b"a small frame"
-MANY = jcobs.encode(SMALL, terminated=True) * (20_000 if PLAIN and sys.implementation.name == "cpython" else 500_000)
-
-
-def fed(seen):
-    """Feeds many small frames, and returns for each one how many times `seen` had SMALL when its outcome was made.
-
-    The call that counts is no Python code: so it lets no other thread and no signal handler run.
-    """
-    return jcobs._backend.core.Decoder(16, 0).feed(MANY, (seen.count,) * 3)
-
-
-@pytest.fixture
-def no_collection():
-    """No collection of garbage, which may take so long that another thread gets the GIL behind it."""
-    gc.disable()
-    yield
-    gc.enable()
-
-
-def test_feed_of_many_small_frames_lets_others_run(no_collection):
-    decoder = jcobs.Decoder(16)
-    for _ in range(20):
-        turns = []
-        done = threading.Event()
-
-        def other():
-            while not done.is_set():
-                turns.append(time.monotonic())
-                time.sleep(0.001)
-
-        worker = threading.Thread(target=other)
-        worker.start()
-        begun = time.monotonic()
-        outcomes = decoder.feed(MANY)
-        ended = time.monotonic()
-        done.set()
-        worker.join()
-        assert len(outcomes) == len(MANY) // len(jcobs.encode(SMALL, terminated=True))
-        if sum(begun < turn < ended for turn in turns) > 2:
-            return
-    pytest.fail("no other thread ran while feed was at work")
-
-
-def test_feed_of_many_small_frames_hears_signals():
-    seen = []
-    before = signal.signal(signal.SIGALRM, lambda number, frame: seen.append(SMALL))
-    try:
-        for _ in range(20):
-            # By the kernel's timer: a thread that sends the signal might not come to run before feed is done.
-            signal.setitimer(signal.ITIMER_REAL, 0.01)
-            found = fed(seen)
-            signal.setitimer(signal.ITIMER_REAL, 0)
-            if len(set(found)) > 1:
-                return
-    finally:
-        signal.signal(signal.SIGALRM, before)
-    pytest.fail("feed heard no signal before it was done")
 
 
 def use(coder):
@@ -199,54 +136,13 @@ def test_data_that_another_thread_changes():
         worker.join()
 
 
-class Interruption(Exception):
-    pass
-
-
-@pytest.mark.skipif(not hasattr(signal, "setitimer"), reason="there is no setitimer")
-def test_interrupted_feed_leaves_a_decoder_that_works():
-    stream = b"".join(jcobs.encode(b"%d" % number, terminated=True) for number in range(20_000))
-
-    def interrupt(number, frame):
-        raise Interruption
-
-    decoder = jcobs.Decoder(16)
-    gc.collect()  # an exception in what garbage calls back would be dropped
-    gc.disable()
-    before = signal.signal(signal.SIGALRM, interrupt)
-    interrupted = 0
-    try:
-        for delay in range(1, 60):
-            try:
-                signal.setitimer(signal.ITIMER_REAL, delay / 20_000)
-                while True:
-                    decoder.feed(stream)
-            except Interruption:
-                interrupted += 1
-            assert not decoder.unfinished
-            assert decoder.feed(b"\x03hi\0") == [jcobs.Message(b"hi")]
-    finally:
-        signal.setitimer(signal.ITIMER_REAL, 0)
-        signal.signal(signal.SIGALRM, before)
-        gc.enable()
-    assert interrupted == 59
-
-
-def test_a_decoder_that_is_fed_while_it_makes_outcomes():
-    """A class that calls back into the decoder finds it in use; the error leaves it as new."""
-    core = jcobs._backend.core.Decoder(16, 0)
-
-    class Back:
-        def __init__(self, data):
-            core.feed(b"\x03hi\0", (Back, Back, Back))
-
-    with pytest.raises(RuntimeError, match="in use"):
-        core.feed(b"\x03hi\0\x02", (Back, Back, Back))
-    assert not core.unfinished
-    with pytest.raises(IndexError):
-        core.feed(b"\x03hi\0\x02", ())
-    assert not core.unfinished
-    assert core.feed(b"\x03hi\0", (bytes, bytes, bytes)) == [b"hi"]
+@only_extension
+def test_a_decoder_takes_three_classes_of_outcomes():
+    core = jcobs._backend.core
+    for classes in ((), (bytes,) * 3, (jcobs.Message,) * 2, (jcobs.Message,) * 4, [jcobs.Message] * 3, None):
+        with pytest.raises(TypeError, match="three classes of outcomes"):
+            core.Decoder(16, 0, classes)
+    assert core.Decoder(16, 0, (jcobs.Message,) * 3).feed(b"\x05a\0") == [jcobs.Message(b"a")]
 
 
 INTERPRETERS = """

@@ -59,7 +59,7 @@ def over(request):
 
     def run(test):
         async def main():
-            with anyio.fail_after(1200):
+            with anyio.fail_after(250):
                 streams = await make()
                 async with jcobs.AsyncFrameReader(streams[0]) as reader, jcobs.AsyncFrameReader(streams[1]) as device:
                     await test(reader, device)
@@ -110,7 +110,53 @@ def test_requests(over):
         async with anyio.create_task_group() as group:
             group.start_soon(reply, b"second")
             await anyio.sleep(0.5)  # a terminal passes it on
-            assert await reader.request(b"ask", timeout=60, discard=True) == b"second"
+            assert await reader.request(b"ask", timeout=60) == b"second"
+
+    over(test)
+
+
+def test_a_timeout_of_0_takes_what_has_arrived(over):
+    async def test(reader, device):
+        await device.write(b"hi")
+        await device.write(b"late")
+        while (one := await reader.read(timeout=0)) is None:  # until the limit of time is over
+            pass
+        assert one == jcobs.Message(b"hi")
+
+    over(test)
+
+
+def test_requests_at_once(over):
+    async def test(reader, device):
+        found = {}
+
+        async def echo():
+            async for message in device.messages():
+                await device.write(message.upper())
+
+        async def ask(message):
+            found[message] = await reader.request(message, timeout=60)
+
+        async with anyio.create_task_group() as group:
+            group.start_soon(echo)
+            async with anyio.create_task_group() as requests:
+                for number in range(20):
+                    requests.start_soon(ask, b"a%d" % number)
+            group.cancel_scope.cancel()
+        assert len(found) == 20 and all(reply == message.upper() for message, reply in found.items())
+
+    over(test)
+
+
+def test_a_request_that_is_refused_has_sent_nothing(over):
+    async def test(reader, device):
+        async with anyio.create_task_group() as group:
+            group.start_soon(reader.read)
+            await anyio.sleep(0.01)
+            with pytest.raises(RuntimeError, match="^the reader is in use by another call$"):
+                await reader.request(b"launch", timeout=60)
+            group.cancel_scope.cancel()
+        assert await device.read(timeout=0.05) is None
 
     over(test)
 
@@ -159,7 +205,6 @@ def test_a_write_that_is_cancelled_makes_no_other_message(over):
     """The stream takes some of the frame. What is sent next is received, and nothing else."""
 
     async def test(reader, device):
-        device._decoder = jcobs.AsyncFrameReader(device._stream, 60_000_000)._decoder
         with anyio.move_on_after(0.05):
             await reader.write((b"\x01" * 99 + b"\0") * 600_000)
             pytest.fail("it took all of the frame")

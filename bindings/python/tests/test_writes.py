@@ -5,6 +5,7 @@ import io
 import itertools
 import socket
 import threading
+import time
 
 import pytest
 
@@ -101,16 +102,19 @@ def test_nothing_more_is_sent_after_messages_that_were_sent():
 
 
 @pytest.mark.parametrize("sentinel", [0, 9])
-def test_sync(sentinel):
+@pytest.mark.parametrize("message", [*MESSAGES, b"erase\0all\0logs"], ids=len)
+def test_sync(message, sentinel):
+    """What another program has left on the line, wherever its frame was cut, is no message."""
     line = io.BytesIO()
     writer = jcobs.FrameReader(line, sentinel=sentinel, sync=True)
     writer.write(b"one")
     writer.write(b"two")
     frames = [jcobs.encode(message, sentinel=sentinel, terminated=True) for message in (b"one", b"two")]
-    assert line.getvalue() == bytes([sentinel]) + b"".join(frames)
-    before = jcobs.encode(b"of another program", sentinel=sentinel)[:7]
-    found = received(before + line.getvalue(), sentinel)
-    assert found[1:] == [jcobs.Message(b"one"), jcobs.Message(b"two")] and isinstance(found[0], jcobs.Broken)
+    assert line.getvalue().endswith(b"".join(frames)) and len(line.getvalue()) < 300
+    frame = jcobs.encode(message, sentinel=sentinel)
+    for cut in range(len(frame)):
+        found = received(frame[:cut] + line.getvalue(), sentinel)
+        assert found[1:] == [jcobs.Message(b"one"), jcobs.Message(b"two")] and isinstance(found[0], jcobs.Broken)
 
 
 def drained(receive, count):
@@ -155,6 +159,20 @@ def test_a_port_whose_write_times_out(pair):
     reader.join()
     assert found[-2:] == [jcobs.Message(b"stop motor"), jcobs.Message(b"next")]
     assert not any(isinstance(one, jcobs.Message) for one in found[:-2])
+
+
+def test_a_port_that_does_not_wait(pair):
+    """As a raw file that doesn't wait: what the port takes at once is sent, then there is an error."""
+    port, end = pair
+    port.write_timeout = 0
+    writer = jcobs.FrameReader(port)
+    writer.write(b"small")
+    assert jcobs.FrameReader(end).read(timeout=60) == jcobs.Message(b"small")
+    begun = time.process_time()
+    for _ in range(2):
+        with pytest.raises(BlockingIOError, match="took no more, with .* bytes of the frame left"):
+            writer.write(b"\x01\0" * 50_000)
+    assert time.process_time() - begun < 2
 
 
 def test_a_write_to_a_port_that_is_cancelled(pair):
@@ -204,6 +222,6 @@ def test_an_asyncio_write_that_is_cancelled_sends_all():
         await device.close()
         await asyncio.wait_for(done, 120)
         server.close()
-        return found == [jcobs.Message(message), jcobs.Message(b"next")]
+        return isinstance(found[0], jcobs.Broken) and found[1:] == [jcobs.Message(message), jcobs.Message(b"next")]
 
     assert asyncio.run(run())

@@ -11,8 +11,10 @@ from typing import List, Optional, Union
 import jcobs
 from jcobs import compat
 
+Outcome = Union[jcobs.Message, jcobs.Broken, jcobs.TooLong]
 
-def sizes(outcomes: List[jcobs.Outcome]) -> int:
+
+def sizes(outcomes: List[Outcome]) -> int:
     total = 0
     for outcome in outcomes:
         if isinstance(outcome, jcobs.Message):
@@ -34,11 +36,6 @@ def whole(data: Union[bytes, bytearray, memoryview]) -> bytes:
         return error.data + kind.encode()
 
 
-def in_place(buffer: bytearray) -> int:
-    length: int = jcobs.encode_in_place(array("B", bytes(9)), 4, sentinel=1)
-    return length + jcobs.encode_in_place(memoryview(buffer), 4)
-
-
 def coders() -> int:
     encoder = jcobs.Encoder(max_length=100)
     encoder.feed(b"a")
@@ -46,26 +43,26 @@ def coders() -> int:
     found = decoder.feed(encoder.finish(terminated=True))
     decoder.reset()
     unfinished: bool = decoder.unfinished
-    return sizes(found) + unfinished + jcobs.max_length(5) + len(compat.decode(compat.encode(b"")))
+    return sizes(found) + unfinished + jcobs.max_frame_length(5) + len(compat.decode(compat.encode(b"")))
 
 
 def readers() -> List[bytes]:
     reader = jcobs.FrameReader(io.BytesIO(b"\x03hi\0"))
-    one: Optional[jcobs.Outcome] = reader.read(timeout=0.5)
-    reader.write(next(reader).data if one is None else one.data)
+    one: Optional[Outcome] = reader.read(timeout=0.5)
+    reader.write(next(iter(reader)).data if one is None else one.data)
     return [*(outcome.data for outcome in reader), *reader.messages()]
 
 
 def requests(sock: socket.socket) -> bytes:
     with jcobs.FrameReader(sock, sync=True) as device:
         try:
-            reply: bytes = device.request(b"ask", timeout=0.5, discard=True)
+            reply: bytes = device.request(b"ask", timeout=0.5, discard=False)
         except jcobs.DecodeError as error:
             return error.data if error.kind == "too_long" else b""
-        device.discard(quiet=0.1)
+        device.discard()
         for message in jcobs.frames(reply, max_length=5).messages():
             reply += message
-        outcome = next(jcobs.frames(io.BytesIO(reply)))
+        outcome = next(iter(jcobs.frames(io.BytesIO(reply))))
         return bytes(outcome) * len(outcome) if isinstance(outcome, jcobs.Message) else outcome.data
 
 
@@ -81,7 +78,7 @@ async def stream_reader(stream: asyncio.StreamReader, writer: asyncio.StreamWrit
     await reader.discard()
     reply: bytes = await reader.request(b"ask", timeout=None)
     await reader.write(reply)
-    one: Optional[jcobs.Outcome] = await reader.read(timeout=0.5)
+    one: Optional[Outcome] = await reader.read(timeout=0.5)
     found = [outcome.data async for outcome in reader] + [message async for message in reader.messages()]
     return found if one is None else [one.data, *found]
 

@@ -1,8 +1,8 @@
 /* jcobs._core: the calls of libjcobs, for the package jcobs.
  *
  * The module is built for the stable ABI of CPython 3.9, so one file works with CPython 3.9 and every later version.
- * The module has no state, and its decoders and encoders refer to no other objects: the call that makes outcomes takes
- * their classes as arguments. So the module works in every subinterpreter.
+ * The module has no state: a decoder takes the classes of its outcomes as an argument. So the module works in every
+ * subinterpreter.
  */
 #ifndef JCOBS_CORE_H
 #define JCOBS_CORE_H
@@ -29,9 +29,6 @@
 /* A call releases the GIL if its input has at least this many bytes. A call with a shorter input takes only a few
  * microseconds. */
 #define LONG 32768
-
-/* After this many bytes of a chunk, a decoder lets signal handlers and other threads run. */
-#define TURN 65536
 
 /* The flag of a function that gets its arguments as an array. The headers for the stable ABI name this flag only from
  * CPython 3.10 on, but CPython 3.9 has the flag too. */
@@ -68,10 +65,6 @@ int sentinel_of(PyObject *number, unsigned char *result);
 /* Converts an argument to a length, writes the length to `result`, and returns 1. On failure, raises an error and
  * returns 0. */
 int length_of(PyObject *number, const char *name, size_t *result);
-
-/* Converts max_length and sentinel, the arguments of a coder, and returns 1. On failure, raises an error and returns
- * 0. */
-int coder_arguments(PyObject *args, size_t *max_length, unsigned char *sentinel);
 
 /* Releases the GIL if the input has at least LONG bytes. The caller passes the result to `restore`. */
 PyThreadState *release(size_t len);
@@ -118,7 +111,10 @@ int buffer_make(Buffer *buffer, size_t len);
  * The caller holds the GIL. */
 int buffer_take(Buffer *buffer, const char *coder);
 
-/* Returns a new object of an outcome's class, with this data. On failure, raises an error and returns NULL. */
+/* Returns whether an object is a class of outcomes. Such a class has no __init__ of its own (see _streams.py). */
+int is_outcome(PyObject *class);
+
+/* Returns a new object of a class of outcomes, with this data. On failure, raises MemoryError and returns NULL. */
 PyObject *outcome_of(PyObject *class, PyObject *data);
 
 extern PyType_Spec outcome_spec;

@@ -17,12 +17,14 @@ static void encoder_clear(Encoder *self)
 
 static PyObject *encoder_new(PyTypeObject *type, PyObject *args, PyObject *kwargs)
 {
+    PyObject *length, *number;
     size_t max_length;
     unsigned char sentinel;
     Encoder *self;
 
     (void)kwargs;
-    if (!coder_arguments(args, &max_length, &sentinel))
+    if (!PyArg_UnpackTuple(args, "Encoder", 2, 2, &length, &number) || !length_of(length, "max_length", &max_length) ||
+        !sentinel_of(number, &sentinel))
         return NULL;
     self = new_object(type);
     if (self == NULL)

@@ -95,17 +95,17 @@ static PyObject *decoded(PyObject *source, unsigned char sentinel, unsigned int 
 /* Raises jcobs.DecodeError, which is a class in Python. */
 static void raise_decode_error(const char *kind, PyObject *data)
 {
-    PyObject *frames = PyImport_ImportModule("jcobs._frames"), *class = NULL, *raised = NULL;
+    PyObject *package = PyImport_ImportModule("jcobs"), *class = NULL, *raised = NULL;
 
-    if (frames != NULL)
-        class = PyObject_GetAttrString(frames, "DecodeError");
+    if (package != NULL)
+        class = PyObject_GetAttrString(package, "DecodeError");
     if (class != NULL)
         raised = PyObject_CallFunction(class, "sO", kind, data);
     if (raised != NULL)
         PyErr_SetObject(class, raised);
     Py_XDECREF(raised);
     Py_XDECREF(class);
-    Py_XDECREF(frames);
+    Py_XDECREF(package);
 }
 
 static PyObject *core_decode(PyObject *module, PyObject *const *args, Py_ssize_t count, PyObject *names)
@@ -174,9 +174,9 @@ static PyObject *core_frame_kind(PyObject *module, PyObject *const *args, Py_ssi
     return PyUnicode_InternFromString(kinds[kind]);
 }
 
-static PyObject *core_max_length(PyObject *module, PyObject *const *args, Py_ssize_t count, PyObject *names)
+static PyObject *core_max_frame_length(PyObject *module, PyObject *const *args, Py_ssize_t count, PyObject *names)
 {
-    static const Signature of_max_length = {"max_length", 1, {"length", NULL, NULL}};
+    static const Signature of_max_length = {"max_frame_length", 1, {"length", NULL, NULL}};
     PyObject *found[1];
     size_t len;
 
@@ -215,17 +215,17 @@ static const char frame_kind_document[] =
     "'canonical'\n"
     ">>> jcobs.frame_kind(b\"\\x06hel\")\n"
     "'not_a_frame'";
-static const char max_length_document[] =
-    "max_length(length)\n--\n\n"
+static const char max_frame_length_document[] =
+    "max_frame_length(length)\n--\n\n"
     "Returns the length of the longest frame that a message of `length` bytes can have, not counting a sentinel.\n\n"
-    ">>> jcobs.max_length(254), jcobs.max_length(255)\n"
+    ">>> jcobs.max_frame_length(254), jcobs.max_frame_length(255)\n"
     "(255, 257)";
 
 static PyMethodDef functions[] = {
     {"encode", FAST(core_encode), METH_FASTCALL | METH_KEYWORDS, encode_document},
     {"decode", FAST(core_decode), METH_FASTCALL | METH_KEYWORDS, decode_document},
     {"frame_kind", FAST(core_frame_kind), METH_FASTCALL | METH_KEYWORDS, frame_kind_document},
-    {"max_length", FAST(core_max_length), METH_FASTCALL | METH_KEYWORDS, max_length_document},
+    {"max_frame_length", FAST(core_max_frame_length), METH_FASTCALL | METH_KEYWORDS, max_frame_length_document},
     {NULL, NULL, 0, NULL},
 };
 

@@ -43,14 +43,15 @@ static PyObject *outcome_new(PyTypeObject *type, PyObject *args, PyObject *kwarg
     return data != NULL && PyBytes_Check(data) ? outcome_make(type, data) : outcome_wrong(type, data);
 }
 
+int is_outcome(PyObject *class)
+{
+    return PyType_Check(class) && (PyType_GetFlags((PyTypeObject *)class) & Py_TPFLAGS_HEAPTYPE) &&
+           PyType_GetSlot((PyTypeObject *)class, Py_tp_new) == (void *)outcome_new;
+}
+
 PyObject *outcome_of(PyObject *class, PyObject *data)
 {
-    /* If outcome_new is the constructor of a class, the class has no __init__ of its own (see _streams.py). So no
-     * __init__ has to be called. */
-    if (PyType_Check(class) && (PyType_GetFlags((PyTypeObject *)class) & Py_TPFLAGS_HEAPTYPE) &&
-        PyType_GetSlot((PyTypeObject *)class, Py_tp_new) == (void *)outcome_new)
-        return outcome_make((PyTypeObject *)class, data);
-    return PyObject_CallFunctionObjArgs(class, data, NULL);
+    return outcome_make((PyTypeObject *)class, data);
 }
 
 static void outcome_dealloc(PyObject *self)

@@ -1,34 +1,6 @@
 /* The code that the functions and the types share. */
 #include "core.h"
 
-/* If Python itself raised a TypeError, replaces this error with one that names the wrong argument. The message of
- * Python's error contains `text`. A TypeError that a method of the argument raised isn't changed. */
-static void wrong_type(const char *name, const char *wanted, PyObject *given, const char *text)
-{
-    PyObject *type, *value, *trace, *said = NULL, *begin = NULL, *class = NULL;
-
-    if (!PyErr_ExceptionMatches(PyExc_TypeError))
-        return;
-    PyErr_Fetch(&type, &value, &trace);
-    if (value != NULL)
-        said = PyObject_Str(value);
-    if (said != NULL)
-        begin = PyUnicode_FromString(text);
-    if (begin != NULL && PyUnicode_Find(said, begin, 0, PY_SSIZE_T_MAX, 1) >= 0)
-        class = PyObject_GetAttrString((PyObject *)Py_TYPE(given), "__name__");
-    Py_XDECREF(begin);
-    Py_XDECREF(said);
-    if (class == NULL) {
-        PyErr_Restore(type, value, trace);
-        return;
-    }
-    PyErr_Format(PyExc_TypeError, "%s must be %s, not %U", name, wanted, class);
-    Py_DECREF(class);
-    Py_XDECREF(type);
-    Py_XDECREF(value);
-    Py_XDECREF(trace);
-}
-
 PyObject *bytes_of(PyObject *data, const char *name)
 {
     PyObject *view, *contiguous, *bytes = NULL;
@@ -40,10 +12,8 @@ PyObject *bytes_of(PyObject *data, const char *name)
     if (PyByteArray_Check(data))
         return PyBytes_FromStringAndSize(PyByteArray_AsString(data), PyByteArray_Size(data));
     view = PyMemoryView_FromObject(data);
-    if (view == NULL) {
-        wrong_type(name, "a bytes-like object", data, "a bytes-like object is required");
+    if (view == NULL)
         return NULL;
-    }
     contiguous = PyObject_GetAttrString(view, "c_contiguous");
     if (contiguous == Py_True)
         bytes = PyBytes_FromObject(view);
@@ -106,10 +76,8 @@ int sentinel_of(PyObject *number, unsigned char *result)
         value = PyLong_AsLongAndOverflow(number, &overflow);
     } else if (number != NULL) {
         PyObject *index = PyNumber_Index(number);
-        if (index == NULL) {
-            wrong_type("sentinel", "an integer", number, "cannot be interpreted as an integer");
+        if (index == NULL)
             return 0;
-        }
         value = PyLong_AsLongAndOverflow(index, &overflow);
         Py_DECREF(index);
     }
@@ -126,10 +94,8 @@ int length_of(PyObject *number, const char *name, size_t *result)
     PyObject *index = PyNumber_Index(number);
     Py_ssize_t value;
 
-    if (index == NULL) {
-        wrong_type(name, "an integer", number, "cannot be interpreted as an integer");
+    if (index == NULL)
         return 0;
-    }
     value = PyNumber_AsSsize_t(index, NULL); /* the nearest value that fits */
     if (value < 0)
         PyErr_Format(PyExc_ValueError, "%s must not be negative", name);
@@ -138,14 +104,6 @@ int length_of(PyObject *number, const char *name, size_t *result)
     Py_DECREF(index);
     *result = (size_t)value;
     return !PyErr_Occurred();
-}
-
-int coder_arguments(PyObject *args, size_t *max_length, unsigned char *sentinel)
-{
-    PyObject *length, *number;
-
-    return PyArg_UnpackTuple(args, "coder", 2, 2, &length, &number) && length_of(length, "max_length", max_length) &&
-           sentinel_of(number, sentinel);
 }
 
 PyThreadState *release(size_t len)

@@ -17,8 +17,8 @@ bytearray, a memoryview, an array.array or an mmap. Each function and method rai
 bytes-like, and BufferError for an object whose bytes aren't contiguous. But `frames` raises TypeError in both cases,
 and `Message`, `Broken` and `TooLong` raise TypeError for every object except bytes.
 
-`sentinel` is an integer from 0 to 255; any other integer raises ValueError. `length` and `max_length` are numbers of
-bytes: a negative number raises ValueError, and a number above `sys.maxsize` raises OverflowError. An object that isn't
+`sentinel` is an integer from 0 to 255; any other integer raises ValueError. `max_length` is the length of the longest
+message in bytes, and `length` that of a message: a negative number raises ValueError, and a number above `sys.maxsize` raises OverflowError. An object that isn't
 an integer raises TypeError. If there isn't enough memory, a call raises MemoryError.
 """
 
@@ -26,9 +26,19 @@ __version__ = "1.0.0"  # the modules below compare this version with the version
 
 from jcobs._async import AsyncFrameReader
 from jcobs._backend import backend
-from jcobs._frames import DecodeError, decode, encode, encode_in_place, frame_kind, max_length
 from jcobs._readers import FrameReader, frames
-from jcobs._streams import Broken, Decoder, Encoder, Message, Outcome, TooLong
+from jcobs._streams import (
+    Broken,
+    DecodeError,
+    Decoder,
+    Encoder,
+    Message,
+    TooLong,
+    decode,
+    encode,
+    frame_kind,
+    max_frame_length,
+)
 
 __all__ = [
     "AsyncFrameReader",
@@ -38,13 +48,15 @@ __all__ = [
     "Encoder",
     "FrameReader",
     "Message",
-    "Outcome",
     "TooLong",
     "backend",
     "decode",
     "encode",
-    "encode_in_place",
     "frame_kind",
     "frames",
-    "max_length",
+    "max_frame_length",
 ]
+
+for _name in __all__:
+    if _name != "backend":
+        globals()[_name].__module__ = "jcobs"  # for pickles and tracebacks

@@ -10,10 +10,11 @@ import sys
 from typing import TYPE_CHECKING, Any, BinaryIO, Dict, Iterator, List, Optional, TextIO, cast
 
 import jcobs
-from jcobs import Message, Outcome
+from jcobs import Message
 
 if TYPE_CHECKING:
     from jcobs._files import Readable
+    from jcobs._streams import Outcome
 
 NAMES = {jcobs.Message: "message", jcobs.Broken: "broken", jcobs.TooLong: "too long"}
 
@@ -45,7 +46,6 @@ def arguments() -> argparse.ArgumentParser:
         default=65536,
         help="the length of the longest message to show, in bytes (default: %(default)s)",
     )
-    parser.add_argument("--max-length", dest="length", metavar="N", type=int, help=argparse.SUPPRESS)
     parser.add_argument("command", nargs="?", choices=["show", "send"], default="show", help="(default: %(default)s)")
     return parser
 

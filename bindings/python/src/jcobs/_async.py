@@ -4,10 +4,10 @@ from __future__ import annotations
 
 import importlib
 import time
-from typing import TYPE_CHECKING, Any, AsyncIterator, Coroutine, Optional, Protocol, Union
+from typing import TYPE_CHECKING, Any, AsyncIterator, Optional, Protocol, Union
 
 from jcobs._files import CHUNK
-from jcobs._readers import LONGEST_DISCARD, Deadline, Frames, reply_of
+from jcobs._readers import LONGEST_DISCARD, Deadline, Stream, reply_of
 from jcobs._streams import Message, Outcome
 
 if TYPE_CHECKING:
@@ -36,7 +36,23 @@ class Receives(Protocol):
         """Returns at most `max_bytes` bytes, or raises `anyio.EndOfStream`."""
 
 
-class AsyncFrameReader(Frames):
+class Use:
+    """A lock for the calls of one thread's tasks. A call never waits for it: if another call has it, an error is raised."""
+
+    def __init__(self, what: str) -> None:
+        self._what = what
+        self._taken = False
+
+    def __enter__(self) -> None:
+        if self._taken:
+            raise RuntimeError(f"the {self._what} is in use by another call")
+        self._taken = True
+
+    def __exit__(self, *error: object) -> None:
+        self._taken = False
+
+
+class AsyncFrameReader(Stream):
     """Reads frames from a stream of asyncio, trio or anyio, and sends messages.
 
     `read` returns the outcome of one frame: a `Message`, `Broken` or `TooLong`. `max_length` is the length in bytes of
@@ -49,12 +65,14 @@ class AsyncFrameReader(Frames):
     trio and anyio, messages are sent with the method `send_all` or `send` of `writer`, or of the stream if no `writer`
     is passed.
 
-    If `sync` is true, a sentinel is sent before the first frame. So earlier bytes of another sender, or noise on the
-    line, don't become part of the first frame.
+    If `sync` is true, the bytes that end a cut frame are sent before the first frame, as after a `write` that failed. So
+    what an earlier sender left on the line, or noise, is neither taken for a message nor joined to the first frame. The
+    receiver reports one `Broken`.
 
-    A reader is for the tasks of one thread. If two tasks read at the same time, the second call raises the stream's own
-    error, for example RuntimeError for asyncio. If two tasks write at the same time, an asyncio writer sends both
-    frames whole. A stream of trio or anyio sends the first frame, and the second call raises RuntimeError.
+    A reader is for the tasks of one thread. Calls of `request` wait for each other. If two other calls read at the same
+    time, or a request and another call, the second one raises RuntimeError. If two tasks write at the same time, an
+    asyncio writer sends both frames whole. A stream of trio or anyio sends the first frame, and the second call raises
+    RuntimeError. A call that raises this error has read and sent nothing.
 
     If a signal handler raises an exception during a read, bytes may be lost. The reader doesn't notice this loss, and
     may return a wrong message. After such an exception, open the stream again, and make a new reader.
@@ -91,7 +109,8 @@ class AsyncFrameReader(Frames):
         self._stream: Any = stream
         self._name = names[0]
         self._writer: Any = stream if writer is None and self._name != "read" else writer
-        self._sending: Optional[Coroutine[Any, Any, None]] = None  # the last call that sends to trio or anyio
+        self._reading, self._sending = Use("reader"), Use("writer")
+        self._requests: Any = None  # the lock of the library, which the first request makes
 
     def __repr__(self) -> str:
         return f"<{type(self).__name__} of {self._stream!r}>"
@@ -122,33 +141,37 @@ class AsyncFrameReader(Frames):
         if self._name != "receive":
             chunk: bytes = await getattr(self._stream, self._name)(CHUNK)
             return chunk
-        import anyio
-
         try:
             received: bytes = await self._stream.receive(CHUNK)
             return received
-        except anyio.EndOfStream:
+        except self._library().EndOfStream:
             return b""
 
-    async def _take(self) -> bytes:
-        """Reads once, and decodes the bytes. Returns the bytes that were read, or b"" at the end of the stream.
+    def _library(self) -> Any:
+        """Returns the module of the library that the stream belongs to."""
+        return importlib.import_module({"read": "asyncio", "receive_some": "trio", "receive": "anyio"}[self._name])
 
-        Nothing is awaited between the read and the decoding.
+    async def _take(self) -> int:
+        """Reads once, and returns the number of bytes, which is 0 at the end of the stream.
+
+        Nothing is awaited between the read and the decoder.
         """
-        if not self._arrived:
-            self._arrived.append(await self._receive())
-        return self._decode()
+        return self._decoder.push(await self._receive())
 
-    async def _take_within(self, timeout: float) -> Optional[bytes]:
-        """Reads once and decodes, like `_take`, but returns None if no bytes arrive within `timeout` seconds."""
+    async def _take_within(self, deadline: Deadline) -> Optional[int]:
+        """Reads once, like `_take`, but returns None if no bytes arrive before the deadline."""
+        if deadline.passed:
+            return None
+        timeout = deadline.left()
+        if timeout is None:
+            return await self._take()
         if self._name == "read":
             return await self._take_by_a_task(timeout)
-        library: Any = importlib.import_module("trio" if self._name == "receive_some" else "anyio")
-        with library.move_on_after(max(timeout, SHORTEST)):
+        with self._library().move_on_after(max(timeout, SHORTEST)):
             return await self._take()
         return None
 
-    async def _take_by_a_task(self, timeout: float) -> Optional[bytes]:
+    async def _take_by_a_task(self, timeout: float) -> Optional[int]:
         """Implements `_take_within` for asyncio.
 
         `asyncio.wait_for` isn't used, because in Python 3.11 and older versions it can swallow a cancellation.
@@ -171,45 +194,46 @@ class AsyncFrameReader(Frames):
         a number.
         """
         deadline = Deadline(timeout)
-        while not self._pending:
-            left = deadline.left()
-            chunk = await self._take() if left is None else await self._take_within(left)
-            if chunk is None or (left == 0 and chunk and not self._pending):
+        with self._reading:
+            return await self._next(deadline)
+
+    async def _next(self, deadline: Deadline) -> Optional[Outcome]:
+        while (outcome := self._decoder.take()) is None:
+            count = await self._take_within(deadline)
+            if not count:
+                self._nothing(count)
                 return None
-            if not chunk and not self._pending:
-                raise self._end()
-        return self._pending.popleft()
+        return outcome
 
     def __aiter__(self) -> AsyncFrameReader:
         return self
 
     async def __anext__(self) -> Outcome:
-        while not self._pending:
-            if not await self._take() and not self._pending:
-                raise StopAsyncIteration
-        return self._pending.popleft()
+        with self._reading:
+            while (outcome := self._decoder.take()) is None:
+                if not await self._take():
+                    raise StopAsyncIteration
+            return outcome
 
     def messages(self) -> AsyncIterator[bytes]:
         """Yields the bytes of each message, and skips frames that are broken or too long."""
         return AsyncMessages(self)
 
-    async def discard(self, quiet: float = 0.05) -> None:
+    async def discard(self) -> None:
         """Drops the outcomes that haven't been read, and all bytes that have arrived.
 
-        If these bytes end inside a frame, this call waits for the rest of this frame, and drops it too. The call stops
-        as soon as the frame has ended and no further bytes have arrived, or when no byte has arrived for `quiet`
-        seconds. If the rest of the frame comes after that, it is read as another frame. If bytes are still arriving
-        after one second, this call stops. If this happens inside a frame, the next outcome is the outcome of this
-        frame. `quiet` must not be negative.
+        If the bytes end inside a frame, the rest of this frame is dropped too, as far as the next sentinel, whenever it
+        arrives. If bytes are still arriving after one second, this call stops.
         """
+        with self._reading:
+            await self._discard()
+
+    async def _discard(self) -> None:
+        self._decoder.discard()
         end = time.monotonic() + LONGEST_DISCARD
-        while await self._take_within(Deadline(quiet).left() or 0.0 if self.unfinished else 0.0):
-            self._pending.clear()
-            if time.monotonic() > end:
-                return
-        self._pending.clear()
-        self._headless = False
-        self._decoder.reset()
+        while await self._take_within(Deadline(0)) and time.monotonic() < end:
+            self._decoder.discard()
+        self._decoder.discard()
 
     async def write(self, message: ReadableBuffer) -> None:
         """Sends a message as a frame, and the sentinel after the frame.
@@ -224,40 +248,38 @@ class AsyncFrameReader(Frames):
         if self._writer is None:
             raise TypeError("to write, pass the stream's writer: AsyncFrameReader(stream, writer=writer)")
         if not hasattr(self._writer, "drain"):
-            await self._send(message)
+            send = getattr(self._writer, "send_all" if hasattr(self._writer, "send_all") else "send")
+            with self._sending:
+                await send(self._out(message))
+                self._cut = 0
             return
         self._writer.write(self._out(message))
-        self._sent()  # the writer has the whole frame, and sends it even if this call is cancelled
+        self._cut = 0  # the writer has the whole frame, and sends it even if this call is cancelled
         await self._writer.drain()
 
-    async def _send(self, message: ReadableBuffer) -> None:
-        """Sends a message to a stream of trio or anyio.
-
-        The coroutine of an earlier call shows whether that call is still running.
-        """
-        if self._sending is not None and (self._sending.cr_running or self._sending.cr_await is not None):
-            raise RuntimeError("the writer is in use by another call")
-        self._sending = self._send_alone(message)
-        await self._sending
-
-    async def _send_alone(self, message: ReadableBuffer) -> None:
-        await getattr(self._writer, "send_all" if hasattr(self._writer, "send_all") else "send")(self._out(message))
-        self._sent()
-
-    async def request(self, message: ReadableBuffer, timeout: Optional[float], *, discard: bool = False) -> bytes:
+    async def request(self, message: ReadableBuffer, timeout: Optional[float], *, discard: bool = True) -> bytes:
         """Sends a message, and returns the reply, which is the next message that is read.
 
-        Raises TimeoutError if no frame has ended `timeout` seconds after the message was sent, `DecodeError` if the
-        next frame is broken or too long, and EOFError at the end of the stream. `timeout` may be None; then the call
-        waits without a limit. This call also raises the errors of `read` and `write`. If `discard` is true, this call
-        first calls `discard()`, so that bytes that have already arrived, such as a late reply to an earlier request,
-        aren't mistaken for the reply.
+        This call first calls `discard()`, unless `discard` is false. So what has arrived before, such as a late reply
+        to an earlier request, isn't mistaken for the reply. If only a part of a late reply has arrived, its rest isn't
+        mistaken for the reply either.
+
+        Raises TimeoutError if no reply has ended `timeout` seconds after the message was sent, `DecodeError` if the
+        reply is broken or too long, and EOFError at the end of the stream. `timeout` may be None; then the call waits
+        without a limit. This call also raises the errors of `read` and `write`.
+
+        If several tasks call `request`, each one waits until the requests before it have ended, in their order. The
+        time of this wait isn't part of `timeout`.
         """
         Deadline(timeout)
-        if discard:
-            await self.discard()
-        await self.write(message)
-        return reply_of(await self.read(timeout))
+        if self._requests is None:
+            self._requests = self._library().Lock()
+        async with self._requests:
+            with self._reading:
+                if discard:
+                    await self._discard()
+                await self.write(message)
+                return reply_of(await self._next(Deadline(timeout)))
 
 
 class AsyncMessages:

@@ -8,18 +8,19 @@ import os
 import select
 import socket
 import sys
-from typing import Any, Callable, Deque, Iterable, Optional, Protocol
+from typing import Any, Callable, Iterable, Optional, Protocol
 
 CHUNK = 65536
-# This object stands for bytes that were read and then lost. It is recognized by its identity (`is`), not by its bytes.
-GAP = bytes(bytearray(b"gap"))
 
-Kept = Deque[bytes]
-# A function that reads the bytes that have arrived from a file, and appends them to the third parameter. If no bytes
-# have arrived, the function waits until some arrive. At the end of the stream it appends empty bytes. The second
-# parameter is the timeout in seconds; None means the file's own timeout. The function returns False if no bytes have
-# arrived before the timeout.
-Read = Callable[[Any, Optional[float], Kept], bool]
+# A function of a decoder that calls a `read` with a size, and takes the bytes. It returns the number of bytes, or None
+# if `read` returned None. Even if a signal handler raises an exception, no byte that was read is lost, if `read` is
+# written in C. If it is written in Python, bytes may be lost, and the decoder takes each exception but an OSError for a
+# loss.
+Receive = Callable[[Callable[[int], Optional[bytes]], int], Optional[int]]
+# A function that has the bytes received that have arrived from a file. If no bytes have arrived, the function waits
+# until some arrive. The second parameter is the timeout in seconds; None means the file's own timeout. The function
+# returns the number of bytes, 0 at the end of the stream, or None if no bytes have arrived before the timeout.
+Read = Callable[[Any, Optional[float], Receive], Optional[int]]
 
 
 class Readable(Protocol):
@@ -34,27 +35,6 @@ class Receivable(Protocol):
 
     def recv(self, size: int, /) -> bytes:
         """Returns at most `size` bytes, or no bytes at the end of the stream."""
-
-
-def keep(kept: Kept, read: Callable[[int], Optional[bytes]], size: int, in_python: bool = False) -> bool:
-    """Reads bytes and appends them to `kept`. If no bytes have arrived, appends nothing, and returns False.
-
-    If `read` is written in C, no bytecode runs after the read and before the bytes are appended. So even if a signal
-    handler raises an exception, no byte that was read is lost. If `read` is written in Python (`in_python`), and an
-    exception interrupts `read`, bytes may be lost. In this case `GAP` is appended.
-    """
-    try:
-        kept.extend(map(read, (size,)))  # type: ignore[arg-type]
-    except OSError:
-        raise
-    except BaseException:
-        if in_python and not kept:
-            kept.append(GAP)
-        raise
-    if kept[-1] is None:
-        kept.pop()
-        return False
-    return True
 
 
 def descriptor_of(file: Any) -> Optional[int]:
@@ -75,9 +55,15 @@ def wait(descriptors: Iterable[int], timeout: Optional[float]) -> bool:
     return bool(poll.poll(None if timeout is None else timeout * 1000))
 
 
+def takes(port: Any) -> bool:
+    """Returns whether a port takes a byte at once."""
+    descriptor = descriptor_of(port)
+    return descriptor is None or bool(select.select([], [descriptor], [], 0)[1])
+
+
 def is_ready(file: Any, timeout: float) -> bool:
     """Waits until a file or socket has bytes or is at its end, and returns whether that happened in time."""
-    if not hasattr(file, "fileno"):
+    if not hasattr(file, "fileno") or isinstance(file, io.BufferedRWPair):
         kind = type(file).__name__
         raise TypeError(f"a timeout needs a serial port, a socket or a file: {kind} has no fileno")
     descriptor = descriptor_of(file)
@@ -88,7 +74,7 @@ def is_ready(file: Any, timeout: float) -> bool:
     return wait([descriptor], timeout)
 
 
-def read_port(port: Any, timeout: Optional[float], kept: Kept) -> bool:
+def read_port(port: Any, timeout: Optional[float], receive: Receive) -> Optional[int]:
     """Reads the bytes that have arrived at a serial port. If no bytes have arrived, waits for the next byte.
 
     The function waits on the descriptor. It doesn't set the port's own timeout, because pyserial would then configure
@@ -99,25 +85,25 @@ def read_port(port: Any, timeout: Optional[float], kept: Kept) -> bool:
         abort = getattr(port, "pipe_abort_read_r", None)  # this becomes readable when port.cancel_read() is called
         descriptors = [port.fileno()] if abort is None else [port.fileno(), abort]
         if not wait(descriptors, port.timeout if timeout is None else timeout):
-            return False
+            return None
         waiting = port.in_waiting
-    return keep_some(kept, port, waiting)
+    return receive_some(port, waiting, receive)
 
 
-def read_port_by_its_timeout(port: Any, timeout: Optional[float], kept: Kept) -> bool:
+def read_port_by_its_timeout(port: Any, timeout: Optional[float], receive: Receive) -> Optional[int]:
     """Does what `read_port` does, but for a port without a descriptor: a port on Windows, or a port of rfc2217://."""
     waiting = port.in_waiting
     if waiting or timeout is None:
-        return keep_some(kept, port, waiting)
+        return receive_some(port, waiting, receive)
     own = port.timeout
     port.timeout = timeout
     try:
-        return keep_some(kept, port, 1)
+        return receive_some(port, 1, receive)
     finally:
         port.timeout = own
 
 
-def read_port_at_a_socket(port: Any, timeout: Optional[float], kept: Kept) -> bool:
+def read_port_at_a_socket(port: Any, timeout: Optional[float], receive: Receive) -> Optional[int]:
     """Does what `read_port` does, but for a port of socket://.
 
     The `in_waiting` of such a port is 1 if any bytes are waiting, however many there are. So this function doesn't use
@@ -125,47 +111,37 @@ def read_port_at_a_socket(port: Any, timeout: Optional[float], kept: Kept) -> bo
     """
     own = port.timeout
     if not wait([port.fileno()], own if timeout is None else timeout):
-        return False
+        return None
     port.timeout = 0
     try:
-        return keep_some(kept, port, CHUNK)
+        return receive_some(port, CHUNK, receive)
     finally:
         port.timeout = own
 
 
-def keep_some(kept: Kept, port: Any, waiting: int) -> bool:
-    """Reads `waiting` bytes and appends them to `kept`. If `waiting` is 0, waits for 1 byte.
+def receive_some(port: Any, waiting: int, receive: Receive) -> Optional[int]:
+    """Reads `waiting` bytes of a port. If `waiting` is 0, waits for 1 byte.
 
-    The bytes of a port have no end. So if no byte was read, the port's timeout has passed, and the function returns
-    False.
+    The bytes of a port have no end. So if no byte was read, the port's timeout has passed.
     """
-    keep(kept, port.read, min(max(waiting, 1), CHUNK), in_python=True)
-    if kept[-1]:
-        return True
-    kept.pop()
-    return False
+    return receive(port.read, min(max(waiting, 1), CHUNK)) or None
 
 
-def read_socket(sock: Any, timeout: Optional[float], kept: Kept) -> bool:
+def read_socket(sock: Any, timeout: Optional[float], receive: Receive) -> Optional[int]:
     """Reads the bytes that have arrived at a socket. If no bytes have arrived, waits until some arrive."""
     if timeout is not None and not is_ready(sock, timeout):
-        return False
-    return receive(sock, kept)
-
-
-def receive(sock: Any, kept: Kept, in_python: bool = False) -> bool:
-    """Reads bytes from a socket as `keep` does. Returns False if its own timeout passes, or if it would block."""
+        return None
     try:
-        return keep(kept, sock.recv, CHUNK, in_python)
+        return receive(sock.recv, CHUNK)
     except BlockingIOError:
-        return False
+        return None
     except socket.timeout as error:
         if error.errno == errno.ETIMEDOUT:
             raise  # the connection is lost
-        return False
+        return None
 
 
-def read_ssl(sock: Any, timeout: Optional[float], kept: Kept) -> bool:
+def read_ssl(sock: Any, timeout: Optional[float], receive: Receive) -> Optional[int]:
     """Reads the bytes that have arrived at an SSL socket. If no bytes have arrived, waits until some arrive.
 
     An SSL socket may be readable only because a record without data has arrived. So the function doesn't wait until the
@@ -177,12 +153,17 @@ def read_ssl(sock: Any, timeout: Optional[float], kept: Kept) -> bool:
     try:
         if timeout is not None:
             sock.settimeout(timeout)
-        return receive(sock, kept, in_python=True)
+        return read_socket(sock, None, receive)
     except SSLWantReadError:
-        return False
+        return None
     finally:
         if timeout is not None:
             sock.settimeout(own)
+
+
+def in_python(read: Callable[[int], Optional[bytes]]) -> Callable[[int], Optional[bytes]]:
+    """Returns a function in Python that does the same."""
+    return lambda size: read(size)
 
 
 def waits(file: Any) -> bool:
@@ -193,19 +174,18 @@ def waits(file: Any) -> bool:
         return True  # no descriptor, or Windows
 
 
-def read_file(file: Any, timeout: Optional[float], kept: Kept) -> bool:
+def read_file(file: Any, timeout: Optional[float], receive: Receive) -> Optional[int]:
     """Reads the bytes that have arrived from a file. If no bytes have arrived, waits until some arrive."""
     if timeout is not None and not is_ready(file, timeout):
-        return False
-    of_socket = isinstance(getattr(file, "raw", file), socket.SocketIO)
-    found = keep(kept, getattr(file, "read1", file.read), CHUNK, in_python=of_socket)
-    if (not found or not kept[-1]) and hasattr(file, "raw") and not waits(file):
+        return None
+    read = getattr(file, "read1", file.read)
+    # The raw file may be written in Python, as that of a socket is.
+    count = receive(read if type(getattr(file, "raw", file)).__module__ == "_io" else in_python(read), CHUNK)
+    if not count and hasattr(file, "raw") and not waits(file):
         # If `read1` returns empty bytes, the file is at its end. Up to Python 3.13, empty bytes may also mean that no
         # bytes have arrived. In both cases the file's own buffer is empty, so the raw file can be read.
-        if found:
-            kept.pop()
-        return keep(kept, file.raw.read, CHUNK)
-    return found
+        return receive(file.raw.read, CHUNK)
+    return count
 
 
 def read_of(file: Any) -> Read:
@@ -230,12 +210,14 @@ def send(file: Any, data: bytes) -> None:
         file.sendall(data)
         return
     raw, port = isinstance(file, io.RawIOBase), hasattr(file, "in_waiting")
+    waits = not port or getattr(file, "write_timeout", None) != 0
     while data:
-        count = file.write(data)
-        data = data[count:] if count is not None or raw else b""
-        if data and port and getattr(file, "write_timeout", None) != 0:
+        # A write of pyserial without a wait tries again and again, as long as the port takes no byte.
+        count = file.write(data) if waits or takes(file) else None
+        data = data[count:] if count is not None or raw or not waits else b""
+        if data and port and waits:
             raise OSError(errno.ECANCELED, f"the write was cancelled, with {len(data)} bytes of the frame left")
-        if count is None and raw:
+        if data and not count:
             raise BlockingIOError(errno.EAGAIN, f"the file took no more, with {len(data)} bytes of the frame left")
     # A port isn't flushed: it has no buffer of its own, and its flush waits until the bytes are on the wire, however
     # long that takes.

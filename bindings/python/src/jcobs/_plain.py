@@ -8,19 +8,20 @@ from __future__ import annotations
 import functools
 import operator
 import sys
-from typing import TYPE_CHECKING, Any, Callable, List, Tuple, Type, TypeVar
+import threading
+from collections import deque
+from typing import TYPE_CHECKING, Any, Callable, Deque, List, Optional, Tuple, Type, TypeVar
 
 from jcobs import __version__ as version
-from jcobs._alone import Calls, alone
 
 if TYPE_CHECKING:
     from _typeshed import ReadableBuffer
 
-    from jcobs._frames import FrameKind
+    from jcobs._streams import FrameKind
 
 _T = TypeVar("_T")
 
-__all__ = ["Decoder", "Encoder", "Outcome", "backend", "decode", "encode", "frame_kind", "max_length", "version"]
+__all__ = ["Decoder", "Encoder", "Outcome", "backend", "decode", "encode", "frame_kind", "max_frame_length", "version"]
 backend = "python"
 FULL = 254
 
@@ -31,36 +32,21 @@ def bytes_of(data: ReadableBuffer, name: str) -> bytes:
         return data
     if isinstance(data, bytearray):
         return bytes(data)
-    try:
-        view = memoryview(data)
-    except TypeError as error:
-        if hasattr(type(data), "__buffer__") and "a bytes-like object is required" not in str(error):
-            raise  # the object's own method raised this error
-        raise TypeError(f"{name} must be a bytes-like object, not {type(data).__name__}") from None
-    with view:
+    with memoryview(data) as view:
         if not view.c_contiguous:
             raise BufferError(f"{name} is not contiguous; pass a copy, bytes({name})")
         return view.tobytes()
 
 
-def index_of(number: Any, name: str) -> int:
-    try:
-        return operator.index(number)
-    except TypeError as error:
-        if "cannot be interpreted as an integer" not in str(error) and hasattr(number, "__index__"):
-            raise  # the object's own method raised this error
-        raise TypeError(f"{name} must be an integer, not {type(number).__name__}") from None
-
-
 def sentinel_of(number: Any) -> int:
-    sentinel = index_of(number, "sentinel")
+    sentinel = operator.index(number)
     if not 0 <= sentinel <= 255:
         raise ValueError("sentinel must be in range(0, 256)")
     return sentinel
 
 
 def length_of(number: Any, name: str) -> int:
-    length = index_of(number, name)
+    length = operator.index(number)
     if length < 0:
         raise ValueError(f"{name} must not be negative")
     if length > sys.maxsize:
@@ -135,7 +121,7 @@ def decode(frame: ReadableBuffer, *, sentinel: int = 0) -> bytes:
         piece = piece.lstrip(b"\0").partition(b"\0")[0]
     broken, data = output(piece)
     if broken or not piece:
-        from jcobs._frames import DecodeError
+        from jcobs import DecodeError
 
         raise DecodeError("broken" if piece else "empty", data)
     return data
@@ -161,10 +147,10 @@ def frame_kind(frame: ReadableBuffer, *, sentinel: int = 0) -> FrameKind:
     return "not_a_frame" if broken else "canonical" if frame_of(message) == piece else "longer"
 
 
-def max_length(length: int) -> int:
+def max_frame_length(length: int) -> int:
     """Returns the length of the longest frame that a message of `length` bytes can have, not counting a sentinel.
 
-    >>> jcobs.max_length(254), jcobs.max_length(255)
+    >>> jcobs.max_frame_length(254), jcobs.max_frame_length(255)
     (255, 257)
     """
     length = length_of(length, "length")
@@ -206,109 +192,158 @@ class Outcome:
         return type(self), (self._data,), getattr(self, "__dict__", None)
 
 
+class Alone:
+    """Locks: if another call has the lock, RuntimeError is raised.
+
+    If another thread takes the lock in the moment before `with`, this call waits for it.
+    """
+
+    def __init__(self, *uses: str) -> None:
+        self._locks = {use: threading.Lock() for use in uses}
+
+    def __call__(self, use: str, function: Callable[..., _T], *arguments: Any) -> _T:
+        if self._locks[use].locked():
+            raise RuntimeError(f"the {use} is in use by another call")
+        with self._locks[use]:
+            return function(*arguments)
+
+    def is_running(self, use: str) -> bool:
+        return self._locks[use].locked()
+
+
 class Decoder:
-    """A streaming decoder with its buffer."""
+    """A streaming decoder, and the pieces that it has to decode next.
 
-    __slots__ = ("_begun", "_buffer", "_calls", "_joint", "_missing", "_sentinel", "_too_long", "_written")
+    An exception of a signal handler may end each step of a call. So before bytes are read, `_sure` says that they may
+    be lost, until they are in `_pieces` and `_rest`.
+    """
 
-    def __init__(self, max_length: int, sentinel: int) -> None:
-        self._buffer = bytearray(length_of(max_length, "max_length"))
+    def __init__(self, max_length: int, sentinel: int, classes: Tuple[Callable[[bytes], Any], ...]) -> None:
+        self._room = length_of(max_length, "max_length")
         self._sentinel = sentinel_of(sentinel)
-        self._calls: Calls = {}
+        self._classes = classes
+        self.alone = Alone("reader", "writer", "decoder")
         self._clear()
 
     def _clear(self) -> None:
-        self._written = self._missing = 0
-        self._begun = self._joint = self._too_long = False
+        self._pieces: Deque[bytes] = deque()  # those that have ended
+        self._rest = b""  # the bytes of the piece that has begun
+        self._instead: Optional[List[bytes]] = None  # if the rest of that piece is dropped, what is decoded for it
+        self._sure = True
 
-    def _take(self, piece: bytes) -> None:
-        """Decodes bytes of a piece, and writes as many of the decoded bytes as fit the buffer."""
-        data, at = bytearray(), 0
-        missing, joint = self._missing, self._joint
-        while at < len(piece) and not self._too_long:
-            if not missing:
-                if joint:
-                    data.append(0)
-                missing, joint = piece[at] - 1, piece[at] <= FULL
-                at += 1
-            block = piece[at : at + missing]
-            data += block
-            at += len(block)
-            missing -= len(block)
-        room = len(self._buffer) - self._written
-        self._buffer[self._written : self._written + min(len(data), room)] = data[:room]
-        self._written += min(len(data), room)
-        self._missing, self._joint, self._begun = missing, joint, True
-        self._too_long = self._too_long or len(data) > room
+    def _skip(self, instead: List[bytes]) -> None:
+        self._instead = instead
+        self._rest = b""
+        self._sure = True
 
-    def _end(self) -> Tuple[int, bytes]:
-        """Ends the piece. Returns the index at which `classes` has the outcome's class, and the decoded bytes."""
-        found = 2 if self._too_long else 1 if self._missing else 0, bytes(self._buffer[: self._written])
-        self._clear()
-        return found
+    def push(self, chunk: ReadableBuffer) -> int:
+        data = bytes_of(chunk, "chunk")
+        first, *others = data.split(bytes([self._sentinel]))
+        if self._instead is None:
+            # A piece with more bytes than this decodes to more than max_length bytes, whatever the others are.
+            others.insert(0, (self._rest + first)[: self._room + self._room // FULL + 5])
+        elif others:
+            others[:0] = self._instead
+            self._instead = None
+        self._rest = others.pop() if others else b""
+        self._pieces.extend(filter(None, others))
+        return len(data)
 
-    @alone("decoder")
-    def feed(self, chunk: ReadableBuffer, classes: Tuple[Callable[[bytes], _T], ...]) -> List[_T]:
-        outcomes, at = [], 0
+    def receive(self, read: Callable[[int], Optional[ReadableBuffer]], size: int) -> Optional[int]:
+        if not self._sure:
+            self._skip([xored(b"\x02", self._sentinel)])  # a broken piece, without output
+        self._sure = False
         try:
-            data = bytes_of(chunk, "chunk")
-        except MemoryError:
-            self._clear()
+            chunk = read(size)
+        except OSError:
+            self._sure = True
             raise
-        try:
-            while at < len(data):
-                end = data.find(self._sentinel, at)
-                piece = data[at:end] if end >= 0 else data[at:]
-                if piece:
-                    self._take(xored(piece, self._sentinel))
-                if end >= 0 and self._begun:
-                    kind, decoded = self._end()
-                    outcomes.append(classes[kind](decoded))
-                at += len(piece) + 1
-        except BaseException:
-            self._clear()
-            raise
-        return outcomes
+        count = None if chunk is None else self.push(chunk)
+        self._sure = True
+        return count
 
-    @alone("decoder")
-    def reset(self) -> None:
-        self._clear()
+    def take(self) -> Any:
+        try:
+            piece = self._pieces.popleft()
+        except IndexError:
+            return None
+        broken, data = output(xored(piece, self._sentinel))
+        return self._classes[2 if len(data) > self._room else 1 if broken else 0](data[: self._room])
+
+    def __iter__(self) -> Decoder:
+        return self
+
+    def __next__(self) -> Any:
+        if self.alone.is_running("reader"):
+            raise RuntimeError("the reader is in use by another call")
+        outcome = self.take()
+        if outcome is None:
+            raise StopIteration
+        return outcome
+
+    @property
+    def pending(self) -> bool:
+        return bool(self._pieces)
 
     @property
     def unfinished(self) -> bool:
-        return self._is_unfinished()
+        return self.alone("decoder", self._is_unfinished)
 
-    @alone("decoder")
     def _is_unfinished(self) -> bool:
-        return self._begun
+        lost = not self._sure and not self.alone.is_running("reader")
+        return bool(self._rest) or self._instead is not None or lost
+
+    def discard(self) -> None:
+        begun = self._is_unfinished()
+        self._pieces.clear()
+        if begun:
+            self._skip([])
+
+    def feed(self, chunk: ReadableBuffer) -> List[Any]:
+        return self.alone("decoder", self._feed, chunk)
+
+    def _feed(self, chunk: ReadableBuffer) -> List[Any]:
+        data = bytes_of(chunk, "chunk")
+        try:
+            self.push(data)
+            return list(iter(self.take, None))
+        except BaseException:
+            self._clear()
+            raise
+
+    def reset(self) -> None:
+        self.alone("decoder", self._clear)
 
 
 class Encoder:
     """A message that comes in chunks."""
 
-    __slots__ = ("_calls", "_message", "_sentinel", "_taken")
-
     def __init__(self, max_length: int, sentinel: int) -> None:
         self._message = bytearray(length_of(max_length, "max_length"))
         self._sentinel = sentinel_of(sentinel)
-        self._calls: Calls = {}
+        self._alone = Alone("encoder")
         self._taken = 0
 
-    @alone("encoder")
     def feed(self, data: ReadableBuffer) -> None:
-        piece = bytes_of(data, "data")
+        self._alone("encoder", self._feed, bytes_of(data, "data"))
+
+    def _feed(self, piece: bytes) -> None:
         if len(piece) > len(self._message) - self._taken:
             raise ValueError(f"the message is longer than max_length={len(self._message)}")
         self._message[self._taken : self._taken + len(piece)] = piece
         self._taken += len(piece)
 
-    @alone("encoder")
     def finish(self, terminated: bool) -> bytes:
+        return self._alone("encoder", self._finish, terminated)
+
+    def _finish(self, terminated: bool) -> bytes:
         try:
             return encode(self._message[: self._taken], sentinel=self._sentinel, terminated=terminated)
         finally:
             self._taken = 0
 
-    @alone("encoder")
     def reset(self) -> None:
+        self._alone("encoder", self._reset)
+
+    def _reset(self) -> None:
         self._taken = 0

@@ -4,16 +4,13 @@ from __future__ import annotations
 
 import io
 import operator
-import sys
+import threading
 import time
-from collections import deque
-from itertools import chain, compress, starmap
-from typing import TYPE_CHECKING, Any, Callable, Deque, Iterator, List, Optional, Union
+from typing import TYPE_CHECKING, Any, Iterator, Optional, Union
 
-from jcobs._alone import Calls, alone, begins
-from jcobs._files import GAP, Readable, Receivable, read_of, send
-from jcobs._frames import DecodeError, encode
-from jcobs._streams import CLASSES, Broken, Coder, Decoder, Message, Outcome
+from jcobs._backend import core
+from jcobs._files import Readable, Receivable, read_of, send
+from jcobs._streams import CLASSES, Broken, Coder, DecodeError, Message, Outcome, encode
 
 if TYPE_CHECKING:
     from types import TracebackType
@@ -23,7 +20,6 @@ if TYPE_CHECKING:
 
 # The longest wait in seconds that is passed to the system. Every system accepts a wait of this length.
 LONGEST = 2_000_000.0
-IN_USE = "the reader is in use by another call"
 # After this many seconds `discard` stops, even if bytes are still arriving.
 LONGEST_DISCARD = 1.0
 
@@ -55,6 +51,8 @@ def reply_of(outcome: Optional[Outcome]) -> bytes:
 class Deadline:
     """The moment at which a call stops waiting. If the call waits without a limit, there is no such moment."""
 
+    passed = False
+
     def __init__(self, timeout: Optional[float]) -> None:
         if isinstance(timeout, (str, bytes)) or not (timeout is None or hasattr(timeout, "__float__")):
             raise TypeError(f"timeout must be a number of seconds or None, not {type(timeout).__name__}")
@@ -63,96 +61,85 @@ class Deadline:
         self._end = None if timeout is None else time.monotonic() + float(timeout)
 
     def left(self) -> Optional[float]:
-        return None if self._end is None else min(max(0.0, self._end - time.monotonic()), LONGEST)
+        """Returns the seconds that are left. After a wait of 0 seconds, the deadline has passed."""
+        left = None if self._end is None else min(max(0.0, self._end - time.monotonic()), LONGEST)
+        self.passed = left == 0
+        return left
 
 
-class Frames(Coder):
-    """A decoder, the bytes that it has to decode next, and the outcomes that haven't been returned yet."""
+class Stream(Coder):
+    """The state of both directions of a stream: a decoder, and what was sent of the last frame."""
 
     def __init__(self, max_length: int, sentinel: int, sync: bool) -> None:
-        self._decoder = Decoder(max_length, sentinel)
-        self._feed: Callable[[bytes, Any], List[Outcome]] = self._decoder._core.feed
+        self._decoder = core.Decoder(max_length, sentinel, CLASSES)
         self._sentinel = operator.index(sentinel)
-        self._pending: Deque[Outcome] = deque()
-        self._arrived: Deque[bytes] = deque()  # a chunk that was read, but isn't decoded yet
-        self._headless = False  # whether the next bytes are the rest of a frame whose beginning is lost
-        self._lead = bytes([self._sentinel]) if sync else b""  # the bytes to send before the first frame
-        self._cut = 0  # if a frame was cut, how many bytes to send before the sentinel that ends it; otherwise 0
+        # If a frame may have been cut, how many bytes to send before the sentinel that ends it; otherwise 0.
+        self._cut = 255 if sync else 0
 
     @property
     def unfinished(self) -> bool:
         """Whether a frame has begun but not ended.
 
-        At the end of a file, the value says whether the last frame was cut off. Only the thread that reads may use this
-        property. If another thread uses it during a read, the property or the read may raise RuntimeError.
+        At the end of a file, the value says whether the last frame was cut off. Raises RuntimeError in a thread that
+        doesn't read, while another one reads.
         """
-        return self._headless or self._decoder.unfinished
+        return self._decoder.unfinished
 
-    def _end(self) -> EOFError:
-        return EOFError("the stream ended inside a frame" if self.unfinished else "the stream ended")
-
-    def _lose(self, begun: bool) -> None:
-        """Resets the decoder. If a frame had begun, the rest of that frame will be dropped."""
-        self._decoder.reset()
-        self._headless = self._headless or begun
-
-    def _check_arrived(self) -> None:
-        """Drops the chunk that has arrived, if it is empty or is `GAP`, which stands for lost bytes.
-
-        Such a chunk may be left if an exception ended a read. The last step drops the chunk: if a signal handler raises
-        an exception before this step, the next call finds the chunk again.
-        """
-        if self._arrived and (not self._arrived[0] or self._arrived[0] is GAP):
-            if self._arrived[0] is GAP:
-                self._lose(True)
-            self._arrived.popleft()
-
-    def _without_rest(self, chunk: bytes) -> bytes:
-        """Drops the rest of a frame whose beginning is lost. When the sentinel comes, reports the frame as `Broken`."""
-        after = chunk.find(self._sentinel) + 1
-        self._arrived[0] = chunk[after:] if after else b""
-        if after:
-            self._headless = False
-            self._pending.append(Broken(b""))
-        return self._arrived[0]
-
-    def _decode(self) -> bytes:
-        """Decodes the chunk that has arrived, and returns this chunk.
-
-        If a signal handler raises an exception, or memory runs out, the chunk stays, and the next call decodes it. The
-        only frame that is lost is the one that had begun before the chunk, if there is one. A single call into C
-        decodes the chunk, keeps the outcomes and drops the chunk, so that no exception of a signal handler can come
-        between these steps.
-        """
-        chunk = self._arrived[0]
-        left = self._without_rest(chunk) if self._headless else chunk
-        begun = self._decoder.unfinished
-        outcomes = chain.from_iterable(map(self._feed, (left,), (CLASSES,)))
-        dropped: Iterator[Any] = compress(starmap(self._arrived.popleft, ((),)), (0,))
-        step: Iterator[Outcome] = chain(outcomes, dropped)
-        try:
-            self._pending.extend(step)
-        except BaseException:
-            if self._arrived:
-                self._lose(begun)
-            raise
-        return chunk
+    def _nothing(self, count: Optional[int]) -> None:
+        """Raises EOFError if a read has returned 0 bytes. If it has returned None, its timeout has passed."""
+        if count == 0:
+            raise EOFError("the stream ended inside a frame" if self.unfinished else "the stream ended")
 
     def _out(self, message: ReadableBuffer) -> bytes:
         """Returns the bytes to send for a message.
 
-        Until the caller calls `_sent`, the reader assumes that only a part of these bytes was sent.
+        Until the caller sets `_cut` to 0, the reader assumes that only a part of these bytes was sent.
         """
         frame = encode(message, sentinel=self._sentinel, terminated=True)
-        lead = closing(self._cut, self._sentinel) if self._cut else self._lead
+        lead = closing(self._cut, self._sentinel) if self._cut else b""
         # If this frame is cut inside a block, the number of bytes missing from the block is less than the frame's
         # length. If an earlier frame was cut too, up to 254 bytes may be missing.
         self._cut = 255 if lead else min(len(frame), 255)
         return lead + frame
 
-    def _sent(self) -> None:
-        """Records that the last message was sent whole."""
-        self._lead, self._cut = b"", 0
+
+class Frames(Stream):
+    """The outcomes of the frames in a file, in their order. Each loop goes on where the one before has stopped."""
+
+    def __init__(self, file: Union[Readable, Receivable], max_length: int, sentinel: int, sync: bool = False) -> None:
+        self._read = read_of(file)
+        self._file: Any = file
+        super().__init__(max_length, sentinel, sync)
+
+    def __repr__(self) -> str:
+        name = getattr(self._file, "name", None)
+        return f"<{type(self).__name__} of {self._file if name is None else name!r}>"
+
+    def _take(self, deadline: Deadline) -> Optional[int]:
+        """Reads once, unless there are bytes that aren't decoded yet.
+
+        Returns the number of bytes that were read, 0 at the end of the stream, or None at a timeout.
+        """
+        if self._decoder.pending:
+            return 1
+        return None if deadline.passed else self._read(self._file, deadline.left(), self._decoder.receive)
+
+    def __iter__(self) -> Iterator[Outcome]:
+        while True:
+            yield from self._decoder
+            if not self._decoder.alone("reader", self._take, Deadline(None)):
+                return
+
+    def messages(self) -> Iterator[bytes]:
+        """Yields the bytes of each message, and skips frames that are broken or too long.
+
+        >>> import io
+        >>> list(jcobs.FrameReader(io.BytesIO(b"\\x03hi\\x00\\x05a\\x00\\x06hello\\x00")).messages())
+        [b'hi', b'hello']
+        """
+        for outcome in self:
+            if outcome.__class__ is Message:
+                yield outcome.data
 
 
 class FrameReader(Frames):
@@ -165,20 +152,20 @@ class FrameReader(Frames):
 
     Raises TypeError for a text file, and for an object that has none of `in_waiting`, `recv`, `read` and `write`.
 
-    A signal handler may raise an exception during a read, as the handler for Ctrl-C does. With the extension on CPython
-    3.11 or later, no byte from a socket, a pipe or a file is lost through such an exception. Bytes may be lost in plain
-    Python and on an older CPython. They may also be lost in pyserial, in an SSL socket, and in the file that a socket's
-    `makefile` returns. If bytes are lost in these cases, the reader returns one `Broken` with empty `data` instead of
-    the frames that are damaged by the loss. Bytes may also be lost in a gzip file, and in any other object whose `read`
-    or `recv` is written in Python. The reader doesn't notice this loss, and may return a wrong message. After such an
-    exception, open the stream again, and make a new reader.
+    A signal handler may raise an exception during a call, as the handler for Ctrl-C does. With the extension on CPython
+    3.11 or later, nothing of a socket, a pipe or a file is lost. If the object's `read` or `recv` is written in Python,
+    as in pyserial, in an SSL socket and in a gzip file, bytes may be lost. Then the reader returns one `Broken` with
+    empty `data` instead of the frames that are damaged by the loss. The exception must not be an OSError for that, as
+    an OSError of the read itself loses nothing. In plain Python and on an older CPython, the reader
+    may lose outcomes, or refuse each later call, but it makes up no message, and returns none twice.
 
-    If `sync` is true, a sentinel is sent before the first frame. So earlier bytes of another sender, or noise on the
-    line, don't become part of the first frame.
+    If `sync` is true, the bytes that end a cut frame are sent before the first frame, as after a `write` that failed. So
+    what an earlier sender left on the line, or noise, is neither taken for a message nor joined to the first frame. The
+    receiver reports one `Broken`.
 
     One thread may read while another thread writes. While a call that reads is running, other calls that read raise
-    RuntimeError. While a call that writes is running, other calls that write raise RuntimeError too. If `request`
-    raises this error because another call is reading, `request` may have sent its message.
+    RuntimeError. While a call that writes is running, other calls that write raise RuntimeError too. Calls of `request`
+    wait for each other. A call that raises this error has read and sent nothing.
 
     >>> import io
     >>> reader = jcobs.FrameReader(io.BytesIO(b"\\x03hi\\x00\\x06hello\\x00\\x05by"))
@@ -204,14 +191,8 @@ class FrameReader(Frames):
         *,
         sync: bool = False,
     ) -> None:
-        self._read = read_of(file)
-        self._file: Any = file
-        self._calls: Calls = {}
-        super().__init__(max_length, sentinel, sync)
-
-    def __repr__(self) -> str:
-        name = getattr(self._file, "name", None)
-        return f"<{type(self).__name__} of {self._file if name is None else name!r}>"
+        super().__init__(file, max_length, sentinel, sync)
+        self._requests = threading.RLock()
 
     def __enter__(self) -> FrameReader:
         return self
@@ -224,16 +205,6 @@ class FrameReader(Frames):
     def close(self) -> None:
         """Closes the port, the socket or the file. A `with` statement calls this method at its end."""
         self._file.close()
-
-    def _take(self, timeout: Optional[float]) -> Optional[bytes]:
-        """Reads once, and decodes the bytes.
-
-        Returns the bytes that were read, b"" at the end of the stream, or None at a timeout.
-        """
-        self._check_arrived()
-        if not self._arrived and not self._read(self._file, timeout, self._arrived):
-            return None
-        return self._decode()
 
     def read(self, timeout: Optional[float] = None) -> Optional[Outcome]:
         """Returns the outcome of the next frame, or None if this frame hasn't ended after `timeout` seconds.
@@ -264,71 +235,19 @@ class FrameReader(Frames):
         EOFError: the stream ended
         """
         deadline = Deadline(timeout)
-        # The code of `alone` is repeated here. `alone` itself would return the outcome as the value of a call, and such
-        # a value can be lost: see below.
-        calls, mine = self._calls.setdefault("reader", []), sys._getframe()
-        try:
-            if not begins(calls, mine):
-                raise RuntimeError(IN_USE)
-            while not self._pending:
-                left = deadline.left()
-                chunk = self._take(left)
-                if chunk is None or (left == 0 and chunk and not self._pending):
-                    return None
-                if not chunk and not self._pending:
-                    raise self._end()
-            # `popleft` isn't used: if a signal handler raises an exception after a call, the call's value is lost
-            outcome = self._pending[0]
-            del self._pending[0]
-            return outcome
-        finally:
-            try:
-                if calls[0] is mine:
-                    del calls[0]
-            except IndexError:
-                pass
-            del mine
+        while True:
+            for outcome in self._decoder:
+                return outcome
+            count = self._decoder.alone("reader", self._take, deadline)
+            if not count:
+                self._nothing(count)
+                return None
 
-    def __iter__(self) -> FrameReader:
-        return self
-
-    def __next__(self) -> Outcome:
-        calls, mine = self._calls.setdefault("reader", []), sys._getframe()  # as in `read`
-        try:
-            if not begins(calls, mine):
-                raise RuntimeError(IN_USE)
-            while not self._pending:
-                if not self._take(None) and not self._pending:
-                    raise StopIteration
-            outcome = self._pending[0]
-            del self._pending[0]
-            return outcome
-        finally:
-            try:
-                if calls[0] is mine:
-                    del calls[0]
-            except IndexError:
-                pass
-            del mine
-
-    def messages(self) -> Iterator[bytes]:
-        """Yields the bytes of each message, and skips frames that are broken or too long.
-
-        >>> import io
-        >>> list(jcobs.FrameReader(io.BytesIO(b"\\x03hi\\x00\\x05a\\x00\\x06hello\\x00")).messages())
-        [b'hi', b'hello']
-        """
-        return map(operator.attrgetter("data"), filter(Message.__instancecheck__, self))
-
-    @alone("reader")
-    def discard(self, quiet: float = 0.05) -> None:
+    def discard(self) -> None:
         """Drops the outcomes that haven't been read, and all bytes that have arrived.
 
-        If these bytes end inside a frame, this call waits for the rest of this frame, and drops it too. The call stops
-        as soon as the frame has ended and no further bytes have arrived, or when no byte has arrived for `quiet`
-        seconds. If the rest of the frame comes after that, it is read as another frame. If bytes are still arriving
-        after one second, this call stops. If this happens inside a frame, the next outcome is the outcome of this
-        frame. `quiet` must not be negative.
+        This call doesn't wait for bytes. If the bytes end inside a frame, the rest of this frame is dropped too, as far
+        as the next sentinel, whenever it arrives. If bytes are still arriving after one second, this call stops.
 
         All bytes of a file in memory or on a disk count as bytes that have arrived. Like `read` with `timeout`, this
         call raises TypeError if the object isn't a serial port and has no `fileno`.
@@ -336,19 +255,19 @@ class FrameReader(Frames):
         >>> import io
         >>> reader = jcobs.FrameReader(io.BytesIO(b"\\x03hi\\x00\\x06hello\\x00\\x05by"))
         >>> reader.discard()
-        >>> reader.unfinished
-        False
+        >>> reader.read()
+        Traceback (most recent call last):
+            ...
+        EOFError: the stream ended inside a frame
         """
-        end = time.monotonic() + LONGEST_DISCARD
-        while self._take(Deadline(quiet).left() if self.unfinished else 0):
-            self._pending.clear()
-            if time.monotonic() > end:
-                return
-        self._pending.clear()
-        self._headless = False
-        self._decoder.reset()
+        self._decoder.alone("reader", self._discard)
 
-    @alone("writer")
+    def _discard(self) -> None:
+        end = time.monotonic() + LONGEST_DISCARD
+        while self._take(Deadline(0)) and time.monotonic() < end:
+            self._decoder.discard()
+        self._decoder.discard()
+
     def write(self, message: ReadableBuffer) -> None:
         """Sends a message as a frame, and the sentinel after the frame.
 
@@ -363,35 +282,46 @@ class FrameReader(Frames):
         >>> file.getvalue()
         b'\\x06hello\\x00'
         """
-        data = self._out(message)
-        send(self._file, data)
-        self._sent()
+        self._decoder.alone("writer", self._write, message)
 
-    @alone("reader", "request")
-    def request(self, message: ReadableBuffer, timeout: Optional[float], *, discard: bool = False) -> bytes:
+    def _write(self, message: ReadableBuffer) -> None:
+        send(self._file, self._out(message))
+        self._cut = 0
+
+    def request(self, message: ReadableBuffer, timeout: Optional[float], *, discard: bool = True) -> bytes:
         """Sends a message, and returns the reply, which is the next message that is read.
 
-        Raises TimeoutError if no frame has ended `timeout` seconds after the message was sent, `DecodeError` if the
-        next frame is broken or too long, and EOFError at the end of the stream. `timeout` may be None, as for `read`.
-        This call also raises the errors of `read` and `write`. After a TimeoutError the reply may still arrive. If
-        `discard` is true, this call first calls `discard()`, so that bytes that have already arrived aren't mistaken
-        for the reply.
+        This call first calls `discard()`, unless `discard` is false. So what has arrived before, such as a late reply
+        to an earlier request, isn't mistaken for the reply. If only a part of a late reply has arrived, its rest isn't
+        mistaken for the reply either. If the late reply begins after this message is sent, it is mistaken for the
+        reply, because a frame doesn't say which request it replies to. If that can happen, number the requests.
 
-        A late reply to an earlier request may arrive after this message is sent. Then the late reply is mistaken for
-        the reply to this message, because a frame doesn't say which request it replies to. If that can happen, number
-        the requests.
+        Raises TimeoutError if no reply has ended `timeout` seconds after the message was sent, `DecodeError` if the
+        reply is broken or too long, and EOFError at the end of the stream. `timeout` may be None, as for `read`. This
+        call also raises the errors of `read` and `write`.
+
+        If several threads call `request`, each one waits until the requests before it have ended. The time of this
+        wait isn't part of `timeout`.
         """
         Deadline(timeout)
+        with self._requests:
+            return self._decoder.alone("reader", self._request, message, timeout, discard)
+
+    def _request(self, message: ReadableBuffer, timeout: Optional[float], discard: bool) -> bytes:
         if discard:
-            self.discard()
+            self._discard()
         self.write(message)
-        return reply_of(self.read(timeout))
+        deadline = Deadline(timeout)
+        while (reply := self._decoder.take()) is None:
+            count = self._take(deadline)
+            if not count:
+                self._nothing(count)
+                break
+        return reply_of(reply)
 
 
-def frames(
-    source: Union[Readable, Receivable, ReadableBuffer], max_length: int = 65536, sentinel: int = 0
-) -> FrameReader:
-    """Returns an iterator over the outcomes of the frames in a bytes-like object, or in a binary file such as a log.
+def frames(source: Union[Readable, Receivable, ReadableBuffer], max_length: int = 65536, sentinel: int = 0) -> Frames:
+    """Returns an iterable over the outcomes of the frames in a bytes-like object, or in a binary file such as a log.
 
     The bytes are read and decoded in chunks of up to 65536 bytes, as the outcomes are needed. The iterator is a
     `FrameReader`. Its `messages` method skips frames that are broken or too long. At the end of the iteration, its
@@ -411,4 +341,4 @@ def frames(
         except TypeError:
             kind = type(source).__name__
             raise TypeError(f"source must be a contiguous bytes-like object or a binary file, not {kind}") from None
-    return FrameReader(source, max_length, sentinel)
+    return Frames(source, max_length, sentinel)

@@ -1,13 +1,54 @@
-"""Decodes streams of frames, and encodes messages that come in chunks."""
+"""Encodes and decodes whole messages, streams of frames, and messages that come in chunks."""
 
 from __future__ import annotations
 
-from typing import TYPE_CHECKING, Any, List, Tuple, Union
+from typing import TYPE_CHECKING, Any, List, Literal, Tuple, Union
 
 from jcobs._backend import core
 
 if TYPE_CHECKING:
     from _typeshed import ReadableBuffer
+
+ErrorKind = Literal["broken", "empty", "too_long"]
+FrameKind = Literal["not_a_frame", "canonical", "longer"]
+
+
+class DecodeError(ValueError):
+    """Raised by `decode` if the frame is broken or there is no frame, and by a reader's `request` if the reply is
+    broken or too long.
+
+    `kind` is "broken" if the frame breaks off inside a block, and "empty" if there are no bytes, or only sentinels. If
+    a reader raises the error, `kind` may also be "too_long", which means that the reply is longer than the reader's
+    `max_length`. `data` is the bytes that the frame decodes to before it breaks off. If a reader raises the error,
+    `data` has at most `max_length` bytes.
+
+    >>> try:
+    ...     jcobs.decode(b"\\x06hel")
+    ... except jcobs.DecodeError as error:
+    ...     print(error.kind, error.data)
+    broken b'hel'
+    """
+
+    kind: ErrorKind
+    data: bytes
+
+    def __init__(self, kind: ErrorKind, data: bytes) -> None:
+        super().__init__(kind, data)
+        self.kind = kind
+        self.data = data
+
+    def __str__(self) -> str:
+        if self.kind == "empty":
+            return "there is no frame"
+        if self.kind == "too_long":
+            return f"the message is longer than max_length={len(self.data)}"
+        return f"the frame breaks off inside a block, after {len(self.data)} decoded bytes"
+
+
+encode = core.encode
+decode = core.decode
+frame_kind = core.frame_kind
+max_frame_length = core.max_frame_length
 
 
 class Message(core.Outcome):
@@ -62,7 +103,7 @@ class Decoder(Coder):
     """Decodes a stream of frames that comes in chunks of any size.
 
     `max_length` is the length in bytes of the longest message. The decoder allocates `max_length` bytes when it is
-    created. A frame that is broken or too long never affects the next frame.
+    created, but not in plain Python. A frame that is broken or too long never affects the next frame.
 
     Only one thread at a time may use a decoder. While a call is running, each method raises RuntimeError in other
     threads and in signal handlers.
@@ -71,17 +112,14 @@ class Decoder(Coder):
     __slots__ = ("_core",)
 
     def __init__(self, max_length: int = 65536, sentinel: int = 0) -> None:
-        self._core = core.Decoder(max_length, sentinel)
+        self._core = core.Decoder(max_length, sentinel, CLASSES)
 
     def feed(self, chunk: ReadableBuffer) -> List[Outcome]:
         """Decodes the next bytes of the stream, and returns the outcomes of the frames that end in these bytes.
 
         If this call raises TypeError or BufferError, the decoder stays as it was. If there isn't enough memory for the
         outcomes, the call raises MemoryError. In this case the outcomes of this call are lost, and the decoder is
-        reset. If a signal handler raises an exception, as the handler for Ctrl-C does, the call ends with this
-        exception. In this case the outcomes are lost too, but the decoder may not be reset. In both cases, call
-        `reset`, and drop the bytes that follow the chunk, up to the first sentinel. These bytes may be the rest of a
-        frame.
+        reset. Then drop the bytes that follow the chunk, up to the first sentinel: they may be the rest of a frame.
 
         >>> decoder = jcobs.Decoder(max_length=5)
         >>> for outcome in decoder.feed(b"\\x03hi\\x00\\x06hel\\x00\\x07hello!\\x00"):
@@ -90,7 +128,7 @@ class Decoder(Coder):
         Broken(b'hel')
         TooLong(b'hello')
         """
-        return self._core.feed(chunk, CLASSES)
+        return self._core.feed(chunk)
 
     @property
     def unfinished(self) -> bool:
