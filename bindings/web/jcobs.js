@@ -62,8 +62,8 @@ export function encode(message, options) {
   const room = roomFor(bytes.length);
   const machine = machineFor(bytes.length + room + NEAR);
   const at = machine.placeAfter(bytes.length);
-  const { length } = machine.encode(bytes, at, room, sentinel, terminated);
-  return machine.read(at, length);
+  const { length } = machine.encode(bytes, at, room, terminated);
+  return machine.read(at, length, sentinel);
 }
 
 /**
@@ -77,9 +77,9 @@ export function encodeInto(message, dest, options) {
   const room = Math.min(front.length, roomFor(bytes.length));
   const machine = machineFor(bytes.length + room + NEAR);
   const at = machine.placeAfter(bytes.length);
-  const { status, length } = machine.encode(bytes, at, room, sentinel, terminated);
+  const { status, length } = machine.encode(bytes, at, room, terminated);
   if (status === TOO_SMALL) throw new RangeError(`the frame doesn't fit the ${front.length} bytes of dest`);
-  machine.readInto(front, at, length);
+  machine.readInto(front, at, length, sentinel);
   return length;
 }
 
@@ -307,9 +307,8 @@ export class FrameEncoder {
     const { terminated } = optionsOf(options, { terminated: false });
     const { length } = this.#encoder.finish();
     this.#taken = 0;
-    const frame = this.#held.arena.machine.read(this.#held.buffer, length + (terminated ? 1 : 0));
-    if (terminated) frame[length] = 0;
-    if (this.#sentinel !== 0) for (let at = 0; at < frame.length; at++) frame[at] ^= this.#sentinel;
+    const frame = this.#held.arena.machine.read(this.#held.buffer, length + (terminated ? 1 : 0), this.#sentinel);
+    if (terminated) frame[length] = this.#sentinel;
     return frame;
   }
 

@@ -1,8 +1,8 @@
 #!/usr/bin/env python3
 """Gives a WebAssembly module with a 64-bit memory a 32-bit memory instead, which every browser supports: lower.py FILE
 
-The types of functions, variables and globals stay the same, so addresses stay 64-bit numbers. The script changes only these
-parts of the module:
+Within the module the types of functions, variables and globals stay the same, so addresses stay 64-bit numbers there. The script
+changes only these parts of the module:
 
 - Before a load, `i32.wrap_i64` turns the address on the stack into a 32-bit number.
 - For a store, `i32.wrap_i64` comes as soon as the address is on the stack, before the instructions that make the value. If it
@@ -10,6 +10,9 @@ parts of the module:
   holds the value while the address is changed.
 - For memory.copy and memory.fill, the addresses and the length become 32-bit numbers, with the help of such variables.
 - The memory itself gets 32-bit addresses, and so does each piece of data.
+- Instead of an exported function, a new one is exported that takes 32-bit numbers where the old one takes 64-bit numbers, and
+  calls it with them: to pass a 64-bit number, JavaScript makes a BigInt, which takes longer than to encode a short message. A
+  function that returns a 64-bit number is exported as it is.
 
 An address below 4 GiB is the same number in 32 bits. So an access within a memory of at most 4 GiB reads or writes the same
 bytes as before. An access outside of the memory traps in a 64-bit memory, but may not trap in the 32-bit memory. So machine.js
@@ -18,12 +21,14 @@ or more, for a memory with a maximum, and for an instruction that returns or cha
 import sys
 from pathlib import Path
 
-from wasm import CODE, COPY, DATA, FUNCTIONS, I32_CONST, I64_CONST, LOADS, MEMORY, PREFIX, STORES, TYPES
-from wasm import bodies, counted, instructions, leb, module, number, sections, sized, variables
+from wasm import CALL, CODE, COPY, DATA, END, EXPORTS, FUNCTION, FUNCTIONS, I32_CONST, I64_CONST, LOADS, MEMORY, PREFIX, STORES, TYPES
+from wasm import bodies, counted, exports, instructions, leb, module, number, sections, sized, variables
 
 I32, I64 = 0x7F, 0x7E
 HAS_64_BITS = 4  # the flag of a memory without a maximum whose addresses have 64 bits
 WRAP = bytes([0xA7])  # i32.wrap_i64
+EXTEND = bytes([0xAD])  # i64.extend_i32_u
+TYPE_OF_FUNCTION = 0x60
 I32_STORES, FLOAT_STORES = {0x36, 0x3A, 0x3B}, {0x38, 0x39}
 FAR = 1 << 31
 
@@ -101,17 +106,57 @@ def lowered(body, parameters):
     return counted([leb(size) + bytes([kind]) for size, kind in groups]) + b"".join(narrowing.code)
 
 
-def parameters_of(types):
-    """Returns how many parameters each type of function has."""
+def types_of(section):
+    """Returns the types of the parameters and of the results for each type of function."""
     found = []
-    count, at = number(types, 0)
+    count, at = number(section, 0)
     for _ in range(count):
-        at += 1  # the sign of a function's type
-        parameters, at = number(types, at)
-        results, at = number(types, at + parameters)
-        at += results
-        found.append(parameters)
+        at += 1  # TYPE_OF_FUNCTION
+        of = []
+        for _ in range(2):
+            size, at = number(section, at)
+            of.append(section[at : at + size])
+            at += size
+        found.append(tuple(of))
     return found
+
+
+def kinds_of(section):
+    """Returns the index of each function's type."""
+    count, at = number(section, 0)
+    kinds = []
+    for _ in range(count):
+        kind, at = number(section, at)
+        kinds.append(kind)
+    return kinds
+
+
+def narrow(parameters):
+    return parameters.replace(bytes([I64]), bytes([I32]))
+
+
+def call_with(parameters, index):
+    """Returns the body of a function that calls another one, with the same numbers in the types of these parameters."""
+    numbers = b"".join(taken_back(i) + (EXTEND if kind == I64 else b"") for i, kind in enumerate(parameters))
+    return b"\0" + numbers + bytes([CALL]) + leb(index) + bytes([END])
+
+
+def export_narrow(found, types, kinds):
+    """Adds the functions that take 32-bit numbers to the sections and to `types`, and returns their bodies."""
+    added, bodies_added, written = [], [], []
+    for name, kind, index, entry in exports(found[EXPORTS]):
+        parameters, results = types[kinds[index]] if kind == FUNCTION else (b"", b"")
+        if I64 in parameters and I64 not in results:
+            if (narrow(parameters), results) not in types:
+                types.append((narrow(parameters), results))
+            bodies_added.append(call_with(parameters, index))
+            entry = sized(name.encode()) + bytes([FUNCTION]) + leb(len(kinds) + len(added))
+            added.append(types.index((narrow(parameters), results)))
+        written.append(entry)
+    found[TYPES] = counted([bytes([TYPE_OF_FUNCTION]) + sized(takes) + sized(gives) for takes, gives in types])
+    found[FUNCTIONS] = counted([leb(kind) for kind in kinds + added])
+    found[EXPORTS] = counted(written)
+    return bodies_added
 
 
 def memory_of(section):
@@ -139,16 +184,12 @@ def data_of(section):
 
 def lower(data):
     found = sections(data)
-    parameters = parameters_of(found[TYPES])
-    count, at = number(found[FUNCTIONS], 0)
-    kinds = []
-    for _ in range(count):
-        kind, at = number(found[FUNCTIONS], at)
-        kinds.append(kind)
+    types, kinds = types_of(found[TYPES]), kinds_of(found[FUNCTIONS])
     found[MEMORY] = memory_of(found[MEMORY])
     found[DATA] = data_of(found[DATA])
     functions = zip(kinds, bodies(found[CODE]), strict=True)
-    found[CODE] = counted([sized(lowered(body, parameters[kind])) for kind, body in functions])
+    changed = [lowered(body, len(types[kind][0])) for kind, body in functions]
+    found[CODE] = counted([sized(body) for body in changed + export_narrow(found, types, kinds)])
     return module(data, found)
 
 

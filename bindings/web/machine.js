@@ -21,8 +21,8 @@ const CALLS = [
   "memory",
   "__heap_base",
   "jcobs_max_length",
-  "jcobs_encode_with_sentinel",
-  "jcobs_encode_terminated_with_sentinel",
+  "jcobs_encode",
+  "jcobs_encode_terminated",
   "jcobs_decode",
   "jcobs_frame_kind",
   "jcobs_decoder_reset",
@@ -43,10 +43,10 @@ export class CobsError extends Error {
   }
 }
 
-const SMALL = Array.from({ length: NEAR + 64 }, (_, number) => BigInt(number));
-
-/** Returns a number as a BigInt, for the module. Making a BigInt takes longer than a short call, so the BigInts of small numbers are made only once. */
-const word = (number) => (number < SMALL.length ? SMALL[number] : BigInt(number));
+/** XORs `length` bytes from an index on with the sentinel: so a frame with the sentinel 0 gets this sentinel, and the other way round. */
+function xor(bytes, at, length, sentinel) {
+  if (sentinel !== 0) for (let i = at; i < at + length; i++) bytes[i] ^= sentinel;
+}
 
 /** An instance of the module, with calls whose arguments are addresses in its memory. */
 class Machine {
@@ -54,18 +54,12 @@ class Machine {
   #memory;
   #bytes;
   #words;
-  #answerWord;
-  #scratchWord;
-  #nearWord;
 
   constructor(instance) {
     this.#calls = instance.exports;
     this.#memory = this.#calls.memory;
     this.answerAt = Math.ceil(Number(this.#calls.__heap_base.value) / ANSWER_SIZE) * ANSWER_SIZE;
     this.scratchAt = this.answerAt + ANSWER_SIZE;
-    this.#answerWord = BigInt(this.answerAt);
-    this.#scratchWord = BigInt(this.scratchAt);
-    this.#nearWord = BigInt(this.scratchAt + NEAR);
     this.reach(this.scratchAt);
     this.#see();
   }
@@ -86,21 +80,22 @@ class Machine {
 
   /** Copies bytes to an address, and XORs each copied byte with the sentinel. */
   write(bytes, at, sentinel = 0) {
-    const memory = this.#bytes;
-    memory.set(bytes, at);
-    if (sentinel !== 0) for (let i = at; i < at + bytes.length; i++) memory[i] ^= sentinel;
+    this.#bytes.set(bytes, at);
+    xor(this.#bytes, at, bytes.length, sentinel);
   }
 
-  /** Returns a copy of the bytes at an address. */
-  read(at, length) {
+  /** Returns a copy of the bytes at an address, each XORed with the sentinel. */
+  read(at, length, sentinel = 0) {
     // for many bytes, the constructor needs only half as much time as `slice`, because `slice` first clears the copy
-    if (length < LONG) return this.#bytes.slice(at, at + length);
-    return new Uint8Array(this.#bytes.subarray(at, at + length));
+    const copy = length < LONG ? this.#bytes.slice(at, at + length) : new Uint8Array(this.#bytes.subarray(at, at + length));
+    xor(copy, 0, length, sentinel);
+    return copy;
   }
 
-  /** Copies the bytes at an address to the front of `dest`. */
-  readInto(dest, at, length) {
+  /** Copies the bytes at an address to the front of `dest`, and XORs each copied byte with the sentinel. */
+  readInto(dest, at, length, sentinel) {
     dest.set(this.#bytes.subarray(at, at + length));
+    xor(dest, 0, length, sentinel);
   }
 
   maxLength(length) {
@@ -112,54 +107,48 @@ class Machine {
     return this.scratchAt + Math.max(length, NEAR);
   }
 
-  #destWord(dest) {
-    return dest === this.scratchAt + NEAR ? this.#nearWord : BigInt(dest);
-  }
-
   /** Copies bytes to `scratchAt`, and encodes them to the address `dest`. */
-  encode(bytes, dest, room, sentinel, terminated) {
+  encode(bytes, dest, room, terminated) {
     this.write(bytes, this.scratchAt);
-    const call = terminated ? this.#calls.jcobs_encode_terminated_with_sentinel : this.#calls.jcobs_encode_with_sentinel;
-    call(this.#answerWord, this.#scratchWord, word(bytes.length), this.#destWord(dest), word(room), sentinel);
+    const call = terminated ? this.#calls.jcobs_encode_terminated : this.#calls.jcobs_encode;
+    call(this.answerAt, this.scratchAt, bytes.length, dest, room);
     return this.#answer();
   }
 
   /** Decodes the bytes at `scratchAt` to the address `dest`. */
   decode(sourceLength, dest, room) {
-    this.#calls.jcobs_decode(this.#answerWord, this.#scratchWord, word(sourceLength), this.#destWord(dest), word(room));
+    this.#calls.jcobs_decode(this.answerAt, this.scratchAt, sourceLength, dest, room);
     return this.#answer();
   }
 
   frameKind(length) {
-    return this.#calls.jcobs_frame_kind(this.#scratchWord, word(length));
+    return this.#calls.jcobs_frame_kind(this.scratchAt, length);
   }
 
   /** Returns a decoder in the initial state, with its state and its buffer at these addresses. */
   decoder(state, buffer, room) {
-    const calls = this.#calls;
-    const [answerWord, stateWord, bufferWord, roomWord] = [this.answerAt, state, buffer, room].map(BigInt);
-    calls.jcobs_decoder_reset(stateWord);
+    const [calls, answerAt] = [this.#calls, this.answerAt];
+    calls.jcobs_decoder_reset(state);
     return {
       push: (at, length) => {
-        calls.jcobs_decoder_push(answerWord, stateWord, bufferWord, roomWord, BigInt(at), word(length));
+        calls.jcobs_decoder_push(answerAt, state, buffer, room, at, length);
         return this.#answer();
       },
-      isIdle: () => calls.jcobs_decoder_is_idle(stateWord) !== 0,
+      isIdle: () => calls.jcobs_decoder_is_idle(state) !== 0,
     };
   }
 
   /** Returns an encoder in the initial state, with its state and its buffer at these addresses. */
   encoder(state, buffer, room) {
-    const calls = this.#calls;
-    const [answerWord, stateWord, bufferWord, roomWord] = [this.answerAt, state, buffer, room].map(BigInt);
-    calls.jcobs_encoder_reset(stateWord);
+    const [calls, answerAt] = [this.#calls, this.answerAt];
+    calls.jcobs_encoder_reset(state);
     return {
       push: (at, length) => {
-        calls.jcobs_encoder_push(answerWord, stateWord, bufferWord, roomWord, BigInt(at), word(length));
+        calls.jcobs_encoder_push(answerAt, state, buffer, room, at, length);
         return this.#answer();
       },
       finish: () => {
-        calls.jcobs_encoder_finish(answerWord, stateWord, bufferWord, roomWord);
+        calls.jcobs_encoder_finish(answerAt, state, buffer, room);
         return this.#answer();
       },
     };

@@ -11,9 +11,8 @@ import re
 import sys
 from pathlib import Path
 
-from wasm import CALL, CODE, EXPORTS, bodies, counted, exports, instructions, module, sections, sized, variables
+from wasm import CALL, CODE, EXPORTS, FUNCTION, bodies, counted, exports, instructions, module, sections, sized, variables
 
-FUNCTION = 0  # the kind of an export
 EMPTY_BODY = bytes([0, 0x00, 0x0B])  # no variables; unreachable; end
 
 

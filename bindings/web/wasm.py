@@ -7,6 +7,7 @@ from typing import NamedTuple
 
 HEADER = 8  # the magic number and the version
 CUSTOM, TYPES, FUNCTIONS, MEMORY, GLOBALS, EXPORTS, CODE, DATA = 0, 1, 3, 5, 6, 7, 10, 11
+FUNCTION = 0  # the kind of an export
 KNOWN = {TYPES, FUNCTIONS, MEMORY, GLOBALS, EXPORTS, CODE, DATA}
 
 END, BR_TABLE, CALL, I32_CONST, I64_CONST, PREFIX = 0x0B, 0x0E, 0x10, 0x41, 0x42, 0xFC

@@ -3,7 +3,7 @@
 // conformance/README.md describes the lines. The calls that the module doesn't have, because machine.js doesn't make them, are left
 // out: decoding in place, `next_frame` and the two state machines. If the name or the form of the module's result differs
 // from the line, the comment at the call says so.
-import { CobsError, FrameDecoderStream, FrameEncoder, FrameEncoderStream, decode, encode, frameKind, load, maxEncodedLength } from "../jcobs.js";
+import { CobsError, FrameDecoderStream, FrameEncoder, FrameEncoderStream, decode, encode, encodeInto, frameKind, load, maxEncodedLength } from "../jcobs.js";
 import { Raw } from "./raw.mjs";
 
 let raw;
@@ -14,21 +14,30 @@ const writtenOut = (word) => word.split("+").map((part) => part.split("*")).map(
 const bytesOf = (word) => (word === "-" ? new Uint8Array() : Uint8Array.from(word.match(/../g), (pair) => parseInt(pair, 16)));
 const wordOf = (bytes) => (bytes.length === 0 ? "-" : Array.from(bytes, (byte) => byte.toString(16).padStart(2, "0")).join(""));
 const joined = (parts) => Uint8Array.from(parts.flatMap((part) => [...part]));
-const sentinelOf = (word) => ({ byte: bytesOf(word)[0] });
-const ZERO = { byte: 0 };
 
 /** Returns the results of encoding into a buffer: the length, if the frame fits, and the whole buffer. */
-function encoded(call, message, room, sentinel) {
+function encoded(call, message, room) {
   const buffer = raw.place(room);
-  const { status, consumed, length } = raw.answer(call, raw.place(message), buffer, sentinel);
+  const { status, consumed, length } = raw.answer(call, raw.place(message), buffer);
   if (consumed !== (status === "ok" ? message.length : 0)) throw new Error(`${consumed} bytes are consumed`);
   return { status, length: status === "ok" ? String(length) : "-", after: wordOf(raw.read(buffer)) };
+}
+
+/** Returns the status, the length and the whole buffer of `encodeInto` of jcobs.js, in the words of the cases. */
+function encodedInto(message, room, sentinel) {
+  try {
+    const length = encodeInto(message, room, { sentinel });
+    return ["ok", String(length), wordOf(room)];
+  } catch (error) {
+    if (!(error instanceof RangeError)) throw error;
+    return ["too_small", "-", wordOf(room)];
+  }
 }
 
 /** Puts a sentinel before the frame, because no call of the module writes one there. */
 function wrapped(message, room) {
   if (room.length === 0) return { status: "too_small", length: "-", after: "-" };
-  const { status, length, after } = encoded("jcobs_encode_terminated_with_sentinel", message, room.subarray(1), ZERO);
+  const { status, length, after } = encoded("jcobs_encode_terminated", message, room.subarray(1));
   if (status !== "ok") return { status, length, after: wordOf(room) };
   return { status, length: String(Number(length) + 1), after: `00${after === "-" ? "" : after}` };
 }
@@ -126,31 +135,25 @@ function encodedByModule(pieces) {
 
 /** For each call, returns all results that must equal those of the line, one for each way to make the call. If there are none, the line is left out. */
 const calls = {
-  max_encoding_length: ([length]) => [[String(maxEncodedLength(Number(length)))], [String(raw.call("jcobs_max_length", Number(length)))]],
+  max_encoding_length: ([length]) => [[String(maxEncodedLength(Number(length)))], [String(raw.call("jcobs_max_length", BigInt(length)))]],
   max_encoding_overhead: ([length]) => [[String(maxEncodedLength(Number(length)) - Number(length))]],
   encode_vec: ([message]) => [[wordOf(encode(bytesOf(message)))]],
   encode_vec_including_sentinels: ([message]) => [[wordOf(Uint8Array.of(0, ...encode(bytesOf(message), { terminated: true })))]],
   encode_vec_with_sentinel: ([sentinel, message]) => [[wordOf(encode(bytesOf(message), { sentinel: bytesOf(sentinel)[0] }))]],
   encode([message, room]) {
-    const { length, after } = encoded("jcobs_encode_with_sentinel", bytesOf(message), bytesOf(room), ZERO);
+    const { length, after } = encoded("jcobs_encode", bytesOf(message), bytesOf(room));
     return [[length, after]];
   },
   encode_including_sentinels([message, room]) {
     const { length, after } = wrapped(bytesOf(message), bytesOf(room));
     return [[length, after]];
   },
-  encode_with_sentinel([sentinel, message, room]) {
-    const { length, after } = encoded("jcobs_encode_with_sentinel", bytesOf(message), bytesOf(room), sentinelOf(sentinel));
-    return [[length, after]];
-  },
+  encode_with_sentinel: ([sentinel, message, room]) => [encodedInto(bytesOf(message), bytesOf(room), bytesOf(sentinel)[0]).slice(1)],
   try_encode([message, room]) {
-    const { status, length, after } = encoded("jcobs_encode_with_sentinel", bytesOf(message), bytesOf(room), ZERO);
+    const { status, length, after } = encoded("jcobs_encode", bytesOf(message), bytesOf(room));
     return [[status, length, after]];
   },
-  try_encode_with_sentinel([sentinel, message, room]) {
-    const { status, length, after } = encoded("jcobs_encode_with_sentinel", bytesOf(message), bytesOf(room), sentinelOf(sentinel));
-    return [[status, length, after]];
-  },
+  try_encode_with_sentinel: ([sentinel, message, room]) => [encodedInto(bytesOf(message), bytesOf(room), bytesOf(sentinel)[0])],
   try_encode_including_sentinels([message, room]) {
     const { status, length, after } = wrapped(bytesOf(message), bytesOf(room));
     return [[status, length, after]];

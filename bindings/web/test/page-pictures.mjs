@@ -15,7 +15,7 @@ for (const name of Object.keys(PICTURES)) {
     const { server, address: there } = await serve(0, { made: folder, kept: folderOf(name) });
     try {
       await take(browser, address, name, folder);
-      const page = await browser.open(`${there}test/speed.html`);
+      const page = await browser.open(`${there}test/blank.html`);
       const { sizes, apart, shades } = await page.value(`(async () => {
         const small = async (url) => {
           const blob = await (await fetch(url)).blob();

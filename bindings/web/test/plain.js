@@ -1,4 +1,4 @@
-// COBS in plain JavaScript, written for speed. The figures of PAGE.md compare the module with this code. It finds runs with `indexOf`,
+// COBS in plain JavaScript, written for speed. bench/ compares the module with this code. It finds runs with `indexOf`,
 // copies long runs with `set` and short runs byte by byte, and returns a copy, as the module does.
 
 const SHORT = 24; // bytes of a run that a loop copies faster
@@ -109,13 +109,5 @@ export class PlainDecoder {
     }
     this.#written = written;
     this.#missing = missing;
-  }
-}
-
-/** A stream that uses this decoder, with the interface of `FrameDecoderStream`. */
-export class PlainDecoderStream extends TransformStream {
-  constructor({ maxLength }) {
-    const decoder = new PlainDecoder(maxLength);
-    super({ transform: (chunk, controller) => decoder.push(chunk, (outcome) => controller.enqueue(outcome)) });
   }
 }

@@ -48,9 +48,8 @@ export class Raw {
 
   call(name, ...words) {
     const args = words.flatMap((word) => {
-      if (typeof word === "number") return [BigInt(word)];
-      if (word.byte !== undefined) return [word.byte];
-      return word.state ? [BigInt(word.state.at)] : [BigInt(word.at), BigInt(word.length)];
+      if (typeof word !== "object") return [word];
+      return word.state ? [word.state.at] : [word.at, word.length];
     });
     const result = this.calls[name](...args);
     this.#checkGuards(name);

@@ -70,7 +70,7 @@ try {
   await call("POST", `/session/${session}/timeouts`, { script: LONGEST });
   const names = (await readdir(folder)).filter((name) => name.endsWith(".txt")).sort();
 
-  await go("test/speed.html");
+  await go("test/blank.html");
   const ran = await value(`import("/test/cases.js").then(({ runServed }) => runServed("/cobs.wasm", ${JSON.stringify(names.map((name) => `/conformance/${name}`))}))`);
   for (const line of ran.said ?? [JSON.stringify(ran)]) if (!line.startsWith("left out")) console.log(line);
   count(ran.cases - ran.differ || 0, ran.differ ?? 1);
