@@ -1,19 +1,24 @@
 # bash completion for cobs_watch
 _cobs_watch() {
     local cur=${COMP_WORDS[COMP_CWORD]} prev=${COMP_WORDS[COMP_CWORD - 1]} words
-    local show='--text --raw --hexdump --json --bytes --pcap --partial --number --time --color --only --min --max --prefix
-        --crc --crc-order --length --sentinel --skip-first --count --count-every --reconnect --log --help'
+    local show='--as --only --number --time --partial --color --crc --crc-order --length --sentinel --skip-first --count --help'
     local send='--hex --sentinel --crc --crc-order --help'
     local checks='crc-8 crc-16-ccitt-false crc-16-modbus crc-16-xmodem crc-16-kermit crc-16-arc crc-32 crc-32c'
     COMPREPLY=()
+    # Readline splits --time=utc into three words.
+    if [ "$cur" = = ]; then
+        cur=
+    elif [ "$prev" = = ]; then
+        prev=${COMP_WORDS[COMP_CWORD - 2]}
+    fi
     case $prev in
+    --as) words='hex text raw json dump pcap' ;;
     -t | --time) words='start last utc local' ;;
     --color) words='auto always never' ;;
     -o | --only) words='message broken too-long bad-crc unfinished' ;;
     --crc) words=$checks ;;
     --crc-order) words='big little' ;;
-    --log) compopt -o default && return ;;
-    --min | --max | --prefix | --length | --sentinel | --count-every) return ;;
+    --length | --sentinel) return ;;
     *)
         case $cur:${COMP_WORDS[1]} in
         -*:send) words=$send ;;
@@ -27,6 +32,9 @@ _cobs_watch() {
         esac
         ;;
     esac
-    mapfile -t COMPREPLY < <(compgen -W "$words" -- "$cur")
+    # Kinds follow one another with commas between them.
+    local front=
+    [[ $cur != *,* ]] || front=${cur%,*},
+    mapfile -t COMPREPLY < <(compgen -P "$front" -W "$words" -- "${cur##*,}")
 }
 complete -F _cobs_watch cobs_watch
