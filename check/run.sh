@@ -67,6 +67,7 @@ cc=${CC:-cc}
 library=$c/source/jcobs.c
 if has "$cc" gcc 'steps.c'; then
     part 'steps of jcobs.c' steps "$cc" -O2
+    part 'steps of jcobs.c with JCOBS_FAST' steps "$cc" -O2 -DJCOBS_FAST
     part 'steps of jcobs.c, with sanitizers' steps "$cc" -O1 -g -fsanitize=address,undefined -fno-sanitize-recover=all \
         -DMARGIN=0 -DDEPTH=3
     library=$c/prebuilt/$machine-linux/libjcobs.a

@@ -782,7 +782,7 @@ static void check_message(size_t len, size_t length, int shorter, u8 sentinel)
         if (n >= overhead + len)
             memcpy(buffer + overhead, string, len);
         memcpy(again, buffer, n);
-        answer = jcobs_encode_in_place(buffer, n, len);
+        answer = jcobs_encode_in_place(buffer, n, overhead, len);
         if (n < overhead + len) {
             CHECK(answer.status == JCOBS_TOO_SMALL && answer.consumed == 0 && answer.length == 0);
             CHECK(untouched(buffer, 0, n));

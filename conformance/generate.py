@@ -1,7 +1,6 @@
 #!/usr/bin/env python3
-"""Writes the files of cases, one for each group of calls, next to this script, and the input of the program
-crates/cobs_conformance, which is all of these files one after another. README.md has the format. With --check nothing is
-written, and the status is 1 if a file differs from the text that would be written.
+"""Writes the files of cases, one for each group of calls, next to this script. README.md has the format. With --check nothing
+is written, and the status is 1 if a file differs from the text that would be written.
 """
 
 import itertools
@@ -30,7 +29,6 @@ from messages import (
 )
 
 HERE = os.path.dirname(os.path.abspath(__file__))
-PROGRAM = f"{HERE}/../crates/cobs_conformance"
 
 ANY = "?"
 FRAME = encoded_frame(MESSAGE)
@@ -368,18 +366,15 @@ GROUPS = [lengths, encoding, rooms, sentinels, decoding, damage, in_place, encod
 
 
 def main(words):
-    texts, joined = {}, ""
+    texts = {}
     groups = [make() for make in GROUPS]
     groups.append(long.of_lengths(Group("long", "Calls with 5,000 to 70,000 bytes, written in parts.", word=long.in_parts)))
     groups.append(by_hand.of_tests(Group("original", "The tests of the crate cobs 0.5.1. Each case has the name of its test.")))
     groups.append(by_hand.of_own(Group("by-hand", "Other cases whose results were worked out by hand."), groups))
     for group in groups:
-        text = "\n".join(group.lines) + "\n"
-        texts[f"{HERE}/{group.name.replace('-', '_')}.txt"] = text
-        joined += text
+        texts[f"{HERE}/{group.name.replace('-', '_')}.txt"] = "\n".join(group.lines) + "\n"
+    joined = "".join(texts.values())
     lines = [line for line in joined.splitlines() if not line.startswith("#")]
-    texts[f"{PROGRAM}/stdin"] = joined
-    texts[f"{PROGRAM}/stdout"] = f"{len(lines)} cases, 0 differ\n"
     stale = []
     for path, text in texts.items():
         if words == ["--check"]:

@@ -5,7 +5,7 @@ usage: check/frama-c/acsl.py [--c] >FILE
 
 The functions are those in ONES; in C, those that have only numbers as arguments. Their arguments are numbers, and bytes by their index; all are natural numbers in Coq. No
 function subtracts more than there is: 1 from a number that isn't 0. A function of the first i bytes is `i <= 0 ? FIRST : NEXT`,
-and becomes a recursion over i.
+and becomes a recursion over i. In Coq the sentinel is 0: the parameter s is left out, and plain(bytes, s, k) is bytes[k].
 """
 import re
 import sys
@@ -100,7 +100,9 @@ def in_c(found):
 
 
 def main():
-    found = {match[1]: match for match in DEFINITION.finditer(TABLE.read_text())}
+    text = re.sub(r"\bplain\(bytes, s, ([^)]*)\)", r"bytes[\1]", TABLE.read_text())
+    text = text.replace("integer s, ", "").replace("(bytes, s, ", "(bytes, ")
+    found = {match[1]: match for match in DEFINITION.finditer(text)}
     if sys.argv[1:] == ["--c"]:
         in_c(found)
         return

@@ -11,7 +11,7 @@ These files have parts for functions of jcobs.c. A part begins with a heading an
     ## after TEXT              after that line
     # TITLE, before FUNCTION   before this function and its contract: words that contracts use, or a proof for several functions
 
-Lines that begin with '//' are left out. It fails if a heading names no function, loop or line, if a loop of a function that
+Lines that begin with '//' are left out, and lines of a function between #ifdef JCOBS_FAST and the next #else or #endif aren't read. It fails if a heading names no function, loop or line, if a loop of a function that
 has a part has none, if a loop needn't end, if a part has a word for what Frama-C believes without a proof, or if the copy without its
 comments differs from the source without its comments, token by token.
 """
@@ -84,11 +84,22 @@ def functions_of(source):
     return found
 
 
+def read_of(lines, first, last):
+    """The numbers of those lines of a function that are read without JCOBS_FAST."""
+    fast, found = False, []
+    for at in range(first, last + 1):
+        if lines[at].startswith("#"):
+            fast = lines[at] == "#ifdef JCOBS_FAST"
+        elif not fast:
+            found.append(at)
+    return found
+
+
 def place(name, kind, lines, first, last):
     """The number of the line before which a note of a function belongs."""
     if kind and not re.match("(loop|before|after) ", kind):
         sys.exit(f"{name}: a part '{kind}'")
-    inside = range(first, last + 1)
+    inside = read_of(lines, first, last)
     if kind == "":
         found = [first]
     elif kind.startswith("loop "):
@@ -108,7 +119,7 @@ def annotated(source, notes):
     for name, (first, last) in functions.items():
         if name not in notes:
             continue
-        loops = sum(bool(LOOP.match(lines[at])) for at in range(first, last + 1))
+        loops = sum(bool(LOOP.match(lines[at])) for at in read_of(lines, first, last))
         missing = [kind for kind in ["", *(f"loop {n + 1}" for n in range(loops))] if kind not in notes[name]]
         if missing:
             sys.exit(f"{name} has no part for '{missing[0]}'")

@@ -30,17 +30,20 @@ SOURCE = TOP / "bindings/c/source/jcobs.c"
 READ = ["-machdep", "x86_64", "-simplify-cfg", f"-cpp-extra-args=-I{TOP}/bindings/c/include -U__GNUC__"]
 # Steps of a prover, and seconds that are only for a prover that hangs.
 PROVE = ["-wp", "-wp-rte", "-wp-split", "-wp-prover", "z3,cvc4", "-wp-steps", "1500000", "-wp-timeout", "600"]
-LOCAL = re.compile(r"&(?:state|encoder|decoder)\b")
+# Seconds after which a run of Frama-C fails, which only one that hangs takes.
+LIMIT = 4 * 3600
+LOCAL = re.compile(r"&(?:state|encoder|decoder|byte)\b")
 GOAL = re.compile(r"^\[wp\] .*Goal typed_(?:cast_)?(?:ref_)?(\w+)(?! : Valid)\b(?!.* : Valid)", re.M)
 # The functions that take many bytes, whose goals need most of the time.
 LONG = [
-    "jcobs_decoder_take_bytes", "jcobs_decoder_push", "jcobs_decode_piece", "jcobs_decode", "frame_grows", "frame_goes_on",
-    "jcobs_extra_codes_fit", "jcobs_has_room", "jcobs_write_blocks", "jcobs_write_frame", "jcobs_encode", "jcobs_encode_terminated",
-    "jcobs_encoder_append_bytes", "jcobs_encoder_try_append", "jcobs_encoder_push",
-    "jcobs_decode_blocks", "jcobs_decode_in_place", "jcobs_write_in_place", "jcobs_encode_in_place", "jcobs_xor",
-    "jcobs_encode_with_sentinel", "jcobs_encode_terminated_with_sentinel", "jcobs_decode_with_sentinel",
-    "jcobs_decode_in_place_with_sentinel", "jcobs_decoder_push_with_sentinel", "jcobs_encoder_finish_with_sentinel",
-    "jcobs_encoder_finish_terminated_with_sentinel",
+    "frame_grows", "frame_goes_on", "after_sentinels", "output_grows", "block_goes_on", "jcobs_fits", "jcobs_encoder_has_room",
+    "jcobs_encoder_append", "jcobs_write_frame", "jcobs_encoder_try_push", "jcobs_encode_terminated",
+    "jcobs_decoder_take_steps", "jcobs_decoder_take_run", "jcobs_decoder_take_blocks", "jcobs_decoder_take_bytes",
+    "jcobs_decode_first", "jcobs_decode_blocks", "jcobs_read_frame_for", "jcobs_frame_kind",
+    "jcobs_write_in_place", "jcobs_encode_in_place", "jcobs_decoder_take_in_place", "jcobs_decode_blocks_in_place",
+    "jcobs_read_in_place_for", "jcobs_decode_in_place", "jcobs_decode_in_place_with_sentinel", "jcobs_decode_with_sentinel",
+    "jcobs_decoder_push", "jcobs_decoder_push_with_sentinel", "jcobs_encoder_push", "jcobs_try_write_frame_for",
+    "jcobs_encode_with_sentinel", "jcobs_encode_terminated_with_sentinel", "jcobs_strerror",
 ]  # fmt: skip
 COUNT = re.compile(r"\[wp\] Proved goals: +(\d+) / (\d+)")
 
@@ -88,9 +91,8 @@ def proved(source, names, cache=None, jobs=2):
         for model, functions in models(source, names).items():
             if functions:
                 command = ["frama-c", *READ, str(copy), *PROVE, *kept, "-wp-par", str(jobs), "-wp-model", model]
-                said = subprocess.run(
-                    [*command, "-wp-fct", ",".join(functions)], env=environment, capture_output=True, text=True
-                ).stdout
+                command += ["-wp-fct", ",".join(functions)]
+                said = subprocess.run(command, env=environment, capture_output=True, text=True, timeout=LIMIT).stdout
                 count = COUNT.search(said)
                 if not count:
                     print("\n".join(said.splitlines()[-20:]))
