@@ -1,12 +1,10 @@
 #!/bin/sh
-# Checks that the files of cases are those that the definition gives, that the cases notice wrong function bodies and changed
-# digits, and that plain code in Python and in C passes the cases that it must pass.
+# Checks that the files of cases are those that the definition gives, that the cases notice wrong function bodies, and that plain
+# code in Python and in C passes the cases that it must pass.
 #
 # usage: tests/conformance.sh
 #
-# The script needs python3 and a C compiler (cc, or CC). If the program crates/cobs_conformance is built (by `rt run` in its
-# folder), the changed digits are checked with this program, and otherwise with the plain library in Python. The script ends
-# within two minutes.
+# The script needs python3 and a C compiler (cc, or CC). It ends within two minutes.
 set -eu
 
 top=$(cd "$(dirname "$0")/.." && pwd)
@@ -18,13 +16,6 @@ export PYTHONDONTWRITEBYTECODE=1
 python3 "$here/generate.py" --check
 cat "$here"/*.txt | python3 "$here/plain.py"
 python3 "$here/wrong_bodies.py"
-
-program=$top/crates/cobs_conformance/out/cobs_conformance
-if [ -x "$program" ]; then
-    python3 "$here/change_digit.py" "$program"
-else
-    python3 "$here/change_digit.py" python3 "$here/plain.py"
-fi
 
 ${CC:-cc} -std=c99 -O2 -Wall -Wextra -Wpedantic -Werror -o "$work/adapter" "$here/c/adapter.c" "$here/c/plain.c"
 cat "$here"/*.txt | "$work/adapter"

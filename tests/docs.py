@@ -1,228 +1,228 @@
 #!/usr/bin/env python3
-"""Checks that the documents, and the doc comments of crates/cobs, agree with the sources.
+"""Checks that the documents agree with the sources: tests/docs.py [--write]
 
-usage: tests/docs.py [--write]
-
-- Each public item of crates/cobs/src has an example in its doc comment: types, traits, functions, methods, the methods
-  of public traits, the methods of impls of other traits that have a doc comment of their own, and modules.
-- crates/cobs_doc_vectors has each of these examples as a test or a function, perhaps laid out differently. With --write the
-  tests are written (examples.py). Then run `rt fmt` there, and write the imports of a new test by hand.
-- The proof of an example of a law, if the tests have one, is printed with it.
-- Each example in README.md and crates/cobs/CALLING.md is a function of a crate of tests, or the statements of a test.
-- The contracts in crates/cobs/CALLING.md are those of src, of the calls in QUOTED. With --write they are written.
-- No file outside crates/cobs names its proofs, or names a type by its private module. Callers cite only the specs, the laws and
-  the public names of types.
-- docs/MAP.md names each file of the repository, or a folder that it is in.
-- docs/PROMISES.md, crates/cobs/CALLING.md and docs/DIFFERENCES.md have a row for each public call that they must
-  list (calls.py).
-- In docs/PROMISES.md the calls, laws, callers and words are links to their files. With --write they are written (where.py).
-- docs/READING.md explains each sign and word of the proof language that a public clause of crates/cobs uses (signs.py).
-- Each clause, field and word of tests/names.txt exists, because version 1 keeps them. With --write new ones are added (names.py).
-- Each block of tests/wrong_code.txt can be applied, and its function exists. `tests/REFUSED.md` counts and names these blocks
-  and the edits of must-fail/. With --write the counts are written, and names that don't exist any more are removed.
-- No imports of the libraries go in a ring; files have at most 450 lines and functions 40 (layout.py).
-- The links of each document, the paths and commands that it shows, and the clauses that it names exist. Scripts are executable.
-  Names in src/ and specs/ are plain. All versions are that of the file VERSION (prose.py).
-- Counts, sizes and the toolchain in documents are those of the tree, copies are equal, crates.txt has the lines that
-  crates/cobs/CALLING.md quotes from it, and addresses can exist (facts.py).
-- The drawing and the table of crates of docs/ARCHITECTURE.md are what docs/architecture.py makes of the manifests (facts.py).
-
-Only files that git tracks are read. The script prints each difference, and the status is then 1. It also prints hints about
-words for which there is a plainer one, and about comments of functions that don't begin with a verb. It prints which counts grew
-since the last commit, or in the last commit if nothing has changed since (growth.py). Hints and counts don't change the status.
+Links, paths, commands, clauses and calls that a document names exist; each public item of crates/cobs has an example, and
+cobs_vectors runs it; the contracts in CALLING.md are those of src; versions, copies, counts and what is translated are
+right; each block of wrong_code.txt can be applied. --write writes the examples and the contracts.
 """
-import posixpath
+import os
 import re
+import subprocess
 import sys
 
 sys.dont_write_bytecode = True
-from pathlib import Path, PurePosixPath
 
-import calls
 import examples
-import facts
-import growth
-import layout
-import names
-import prose
-import signs
-import where
 import wrong_code
+from tree import BLOCK, TOP, blank, clauses, contracts, documents, files, functions_of, tracked
 
-TOP = Path(__file__).resolve().parent.parent
-SRC = TOP / "crates/cobs/src"
 CALLING = TOP / "crates/cobs/CALLING.md"
-MAP = TOP / "docs/MAP.md"
-# The calls whose contracts CALLING.md quotes.
 QUOTED = """encode try_encode encode_vec CobsEncoder::push CobsEncoder::finalize EncoderState::default EncoderState::clone
     decode CobsDecoder::push encode_frames FrameReader::next_frame""".split()
-HEADING = "## Contracts\n"
+RT = set("all check ci doc expand fmt lemma lib must-fail new plant run selftest test tidy try verdict version".split())
+NAMING = ("docs/ARCHITECTURE.md", "docs/PROMISES.md", "docs/FORMAT.md", "SECURITY.md", "crates/cobs/CALLING.md")
+COPIES = [(name, f"bindings/{folder}/{name}") for name in ("LICENSE-MIT", "LICENSE-APACHE") for folder in ("rust", "web")]
+VERSIONS = [
+    ("bindings/c/Makefile", r"^VERSION = (.*)$"),
+    ("bindings/c/CMakeLists.txt", r"^project\(jcobs VERSION ([\d.]+)"),
+    ("bindings/c/CMakeLists.txt", r"POSITION_INDEPENDENT_CODE ON VERSION ([\d.]+)"),
+    ("bindings/c/cmake/jcobs-config-version.cmake", r"PACKAGE_VERSION ([\d.]+)"),
+    ("bindings/c/device/idf_component.yml", r'^version: "([^"]*)"'),
+    ("bindings/c/device/library.json", r'"version": "([^"]*)"'),
+    ("bindings/c/device/library.properties", r"^version=(.*)$"),
+    ("bindings/c/man/jcobs.3", r'^\.TH .*"jcobs ([\d.]+)"'),
+    ("bindings/python/src/jcobs/__init__.py", r'^__version__ = "([^"]*)"'),
+    ("bindings/rust/Cargo.toml", r'^version = "([^"]*)"'),
+    ("bindings/web/dist/jcobs.cjs", r"^// jcobs ([\d.]+),"),
+    ("bindings/web/dist/jcobs.js", r"^// jcobs ([\d.]+),"),
+    ("bindings/web/package.json", r'"version": "([^"]*)"'),
+    ("crates/cobs_tool/cobs_tool.1", r'^\.TH .*"jcobs ([\d.]+)"'),
+    ("crates/cobs_watch/cobs_watch.1", r'^\.TH .*"jcobs ([\d.]+)"'),
+    ("crates/cobs_watch/src/options.rt", r'^const VERSION: &str = "([^"]*)"'),
+    ("library.json", r'"version": "([^"]*)"'),
+]
 
 
-def public_items(path):
-    """The public items of a file: the line of each, its name, and the lines of its doc comment."""
-    lines, owner = path.read_text().splitlines(), ""
-    for at, line in enumerate(lines):
-        if re.match(r"(pub )?(impl|trait)\b.*\{$", line):
-            owner = line
-        elif line == "}":
-            owner = ""
-        item = re.match(r"( *)(pub )?(fn|struct|enum|trait|type|const|mod) (\w+)", line)
-        if not item:
-            continue
-        first = at
-        while first > 0 and re.match(r"\s*(#\[|//)", lines[first - 1]):
-            first -= 1
-        comment = [text for text in lines[first:at] if text.strip().startswith("///")]
-        if item[3] == "mod" and item[2]:
-            module = path.parent / f"{item[4]}.rt"
-            comment = [text for text in module.read_text().splitlines() if text.startswith("//!")]
-        of_trait = item[1] and (owner.startswith("pub trait") or " for " in owner and comment)
-        if item[2] or of_trait:
-            yield at + 1, item[4], comment
+def read(name):
+    return (TOP / name).read_text()
+
+
+def lines_of(name, without_blocks=True):
+    text = read(name)
+    text = blank(r"^```.*?^```$", text, re.S | re.M) if without_blocks else text
+    return enumerate(text.splitlines(), 1)
+
+
+def anchors(text):
+    headings = re.findall(r"^#+ (.*)$", blank(r"^```.*?^```$", text, re.S | re.M), re.M)
+    return {re.sub(r"[^\w\- ]", "", heading.lower()).replace(" ", "-") for heading in headings}
+
+
+def dead_links():
+    for name in documents():
+        for number, line in lines_of(name):
+            for target in re.findall(r"\]\(([^)\s]+)\)", line):
+                file, _, anchor = target.partition("#")
+                there = ((TOP / name).parent / file).resolve() if file else TOP / name
+                if re.match(r"https?:|mailto:", target):
+                    continue
+                if not there.exists():
+                    yield f"{name}:{number}: there is no {file}"
+                elif anchor and anchor not in anchors(there.read_text()):
+                    yield f"{name}:{number}: {file} has no heading {anchor}"
+
+
+def dead_commands():
+    tops = {name.split("/")[0] for name in files() if "/" in name}
+    place = re.compile(rf"(?<![\w/.*-])((?:{'|'.join(map(re.escape, sorted(tops)))})/[\w./*-]*[\w*])")
+    ends = set()
+    for parts in (name.split("/") for name in files()):
+        ends |= {"/".join(parts[a:b]) for a in range(len(parts)) for b in range(a + 1, len(parts) + 1)}
+    for name in [*documents(), ".ci/run", "tests/after.py"]:
+        for number, line in lines_of(name, without_blocks=False):
+            line = re.sub(r'\(r".*?",', "    ", line)  # what a changed file is called, in after.py
+            code = line if line.startswith("    ") or name == ".ci/run" else " | ".join(re.findall(r"`([^`]+)`", line))
+            for found in place.findall(code):
+                if found not in ends and not re.search(r"(^|/)(out|build)(/|$)", found) and not ("*" in found and any(TOP.glob(found))):
+                    yield f"{name}:{number}: there is no {found}"
+            for command in re.findall(r"(?:^|[(;`&|]) *rt ([a-z][a-z-]*)", code):
+                if command not in RT:
+                    yield f"{name}:{number}: rt has no command {command}"
+
+
+def scripts_that_do_not_run():
+    for name in files():
+        with (TOP / name).open("rb") as script:
+            if script.read(2) == b"#!" and not os.access(TOP / name, os.X_OK):
+                yield f"{name}: it isn't executable"
+
+
+def unknown_names():
+    known = clauses()
+    named = tracked(r"crates/\w+/(src|specs)/.*|bindings/c/include/jcobs\.h")
+    words = {word for path in named for word in re.findall(r"\w+", path.read_text())}
+    words |= {part for path in tracked(r"crates/\w+/proofs/.*") for part in path.with_suffix("").parts}
+    for name in NAMING:
+        for number, line in lines_of(name):
+            lists = re.findall(r"`([\w:]+): ([a-z_0-9]+(?:, [a-z_0-9]+)*)`", line)
+            lists += re.findall(r"`([A-Z]\w+)`\]?: `(\w+(?:`, `\w+)*)`", line)
+            for call, of_call in lists:
+                missing = set(re.findall(r"\w+", of_call)) - known.get(call, set())
+                if missing and f"{call}: {of_call}" != "call: clause":
+                    yield f"{name}:{number}: no contract of {call} has {', '.join(sorted(missing))}"
+            for word in re.findall(r"`([A-Za-z]\w+)`", line):
+                if ("_" in word or re.search("[a-z][A-Z]", word)) and word not in words:
+                    yield f"{name}:{number}: no crate has {word}"
+
+
+def other_versions():
+    version = read("VERSION").strip()
+    header = read("bindings/c/include/jcobs.h")
+    parts = [re.search(rf"#define JCOBS_VERSION_{part} (\d+)", header)[1] for part in ("MAJOR", "MINOR", "PATCH")]
+    found = [("bindings/c/include/jcobs.h", ".".join(parts))]
+    found += [(name, (re.search(pattern, read(name), re.M) or [None, "missing"])[1]) for name, pattern in VERSIONS]
+    yield from (f"{name}: its version is {said}, that of VERSION {version}" for name, said in found if said != version)
+    number = sum(int(part) * weight for part, weight in zip(parts, (10000, 100, 1)))
+    if f"pub const VERSION: u32 = {number};" not in read("crates/cobs_c/src/text.rt"):
+        yield f"crates/cobs_c/src/text.rt: VERSION isn't {number}"
+
+
+def other_copies():
+    for original, copy in COPIES:
+        if (TOP / original).read_bytes() != (TOP / copy).read_bytes():
+            yield f"{copy}: it isn't {original}: run cp {original} {copy}"
+    ran = subprocess.run([sys.executable, "-B", TOP / "bindings/c/source/translate.py", "--check"], capture_output=True, text=True)
+    yield from (ran.stderr.strip().splitlines() if ran.returncode else [])
+
+
+def other_counts():
+    cases = sum(line.strip() != "" and not line.startswith("#") for path in (TOP / "conformance").glob("*.txt") for line in path.open())
+    for name in documents():
+        for said in re.findall(r"(\d[\d,]*) (?:conformance )?cases\b", " ".join(read(name).split())):
+            if "," in said and int(said.replace(",", "")) != cases:
+                yield f"{name}: it says {said} cases, and there are {cases:,}"
 
 
 def items_without_example():
-    """A line for each public item whose documentation has no example."""
-    for path in prose.tracked(r"crates/cobs/src/.*\.rt"):
-        for number, name, comment in public_items(path):
-            if not any(text.strip().endswith("```") for text in comment):
-                yield f"{path.relative_to(TOP)}:{number}: {name} has no example"
+    for path in tracked(r"crates/cobs/src/.*\.rt"):
+        comment = []
+        for number, line in enumerate(path.read_text().splitlines(), 1):
+            item = re.match(r"(?:    )?pub (?:fn|struct|enum|trait|type) (\w+)", line)
+            if re.match(r"\s*(///|//|#\[)", line):
+                comment.append(line)
+                continue
+            if item and not any("```" in said for said in comment):
+                yield f"{path.relative_to(TOP)}:{number}: {item[1]} has no example"
+            comment = []
 
 
-def contract(lines):
-    """The lines of a function up to its body, as a signature and its clauses, one a line."""
-    text = " ".join(line.strip() for line in lines if line.strip() and not line.strip().startswith("//"))
-    parts = re.split(r" (?=(?:requires|ensures\*?) )", re.sub(r"\s*;$", "", text))
-    signature = parts[0].replace("( ", "(").replace(", )", ")").removeprefix("pub ")
-    clauses = [re.match(r"(requires|ensures\*?) (\w+ )?\{ (.*) \}$", part).groups() for part in parts[1:]]
-    return [signature] + [f"  {kind}{' ' + name.strip() if name else ''}: {fact}" for kind, name, fact in clauses]
-
-
-def quoted(call):
-    """The contract of a public call, under its type."""
+def contract(call):
+    """The signature and the clauses of a public call, one a line."""
     of_type, _, name = call.rpartition("::")
-    for path in prose.tracked(r"crates/cobs/src/.*\.rt"):
-        lines, owner = path.read_text().splitlines(), ""
+    for path in tracked(r"crates/cobs/src/.*\.rt"):
+        owner, lines = "", path.read_text().splitlines()
         for at, line in enumerate(lines):
-            block = re.match(r"(?:pub )?(?:impl|trait)\b(?:<[^{]*?>)? *(?:\w+(?:<.*>)? for )?(\w+).*\{$", line)
-            if block:
-                owner = block[1]
-            elif line == "}":
-                owner = ""
+            block = BLOCK.match(line)
+            owner = block[1] if block else "" if line == "}" else owner
             indent = re.match(rf"( *)(?:pub )?fn {name}\b", line)
             if indent and owner == of_type:
-                end = next(i for i in range(at, len(lines)) if lines[i].startswith(indent[1] + "{"))
-                signature, *rest = contract(lines[at:end])
-                return [f"{of_type}::{signature.removeprefix('fn ')}" if of_type else signature, *rest]
+                end = lines.index(indent[1] + "{", at)
+                text = " ".join(line.strip() for line in lines[at:end] if not line.strip().startswith("//"))
+                parts = re.split(r" (?=(?:requires|ensures\*?) )", text)
+                head = parts[0].replace("( ", "(").replace(", )", ")").removeprefix("pub ").removeprefix("fn ")
+                rest = [re.match(r"(requires|ensures\*?) (\w+ )?\{ (.*) \}$", part).groups() for part in parts[1:]]
+                head = f"{of_type}::{head}" if of_type else f"fn {head}"
+                return [head] + [f"  {kind}{' ' + name.strip() if name else ''}: {fact}" for kind, name, fact in rest]
     raise SystemExit(f"tests/docs.py: QUOTED names {call}, which isn't in src")
 
 
-def all_contracts():
-    return "```text\n" + "\n".join(line for call in QUOTED for line in quoted(call)) + "\n```\n"
+def with_contracts():
+    head, heading, tail = CALLING.read_text().partition("## Contracts\n")
+    quoted = "\n".join(line for call in QUOTED for line in contract(call))
+    return f"{head}{heading}{tail.partition('```text')[0]}```text\n{quoted}\n```\n"
 
 
-def private_names():
-    """A line for each file outside crates/cobs that names its proofs, or a type by a private module."""
-    for file in prose.tracked(r"crates/(?!cobs/)\w+/(src|specs|proofs)/.*\.(rt|antt)"):
-        for number, line in enumerate(file.read_text().splitlines(), 1):
-            if "Rattle.cobs.proofs" in line:
-                yield f"{file.relative_to(TOP)}:{number}: names a proof of cobs"
-            if re.search(r"Rattle\.cobs\.specs\.declared\.[a-z]", line):
-                yield f"{file.relative_to(TOP)}:{number}: names a type of cobs by a private module, not as declared.TYPE"
-
-
-def paths_in(cell, base):
-    """The paths that the first cell of a row names, from the top. A name without a folder may be in the folder of the one before it."""
-    folder = ""
-    for name in re.findall(r"`([^`]+)`", cell):
-        yield f"{base}/{name}"
-        if "/" in name.strip("/"):
-            folder = name.rpartition("/")[0] if not name.endswith("/") else name.strip("/").rpartition("/")[0]
-        elif folder:
-            yield f"{base}/{folder}/{name}"
-
-
-def names_on_map():
-    """The paths that the map names, from the top: those in tables of files, and the files in other tables. Then the names in
-    sentences, which are about many folders; of a folder like src/ each file has its row.
-    """
-    paths, names, base, section = set(), set(), None, ""
-    for line in MAP.read_text().splitlines():
-        if line.startswith("## "):
-            section = line.removeprefix("## ")
-        if not line.startswith("|"):
-            base = None
-            names.update(set(re.findall(r"`([^`]+)`", line)) - {"src/", "specs/"})
-            continue
-        if re.match(r"\| (file|definitions|crate)\b", line):
-            named = re.search(r"`([^`]+?)/?`", line)
-            base = named[1] if named else section if (TOP / section).is_dir() else ""
-            base = f"{section}/{base}" if (TOP / section / base).is_dir() else base
-        if base is None:
-            paths.update(re.findall(r"`([^`]+[^/`])`", line))
-        else:
-            paths.update(posixpath.normpath(path.lstrip("/")) + "/" * path.endswith("/") for path in paths_in(line.split(" | ")[0], base))
-    return paths, names
-
-
-def files_off_map():
-    """A line for each file whose path the map doesn't name, nor that of a folder that it is in."""
-    paths, names = names_on_map()
-    for file in prose.files():
-        path = PurePosixPath(file)
-        ends = {"/".join(path.parts[-count:]) for count in (1, 2, 3)}
-        inside = {part for parent in path.parents for part in (f"{parent}/", f"{parent.name}/")}
-        if not {file, str(path.with_suffix("")), *(f"{parent}/" for parent in path.parents)} & paths and not (ends | inside) & names:
-            yield f"docs/MAP.md: it doesn't name {file}"
-
-
-def names_without_file():
-    """A line for each file that the map names and that isn't there."""
-    files = {f"/{file}" for file in prose.files()}
-    for name in sorted(set(re.findall(r"`([^`]+)`", MAP.read_text()))):
-        if re.fullmatch(r"[\w./-]+\.[a-z]{1,6}", name) and not any(file.endswith(f"/{name.removeprefix('../')}") for file in files):
-            yield f"docs/MAP.md: it names {name}, which isn't there"
+def is_function(path):
+    """Whether a crate has a function of this path. A method may be in another file than its type."""
+    crate, *place, name = path.split("::")
+    if place and place[-1][0].isupper():
+        return any(function == name and place[-1].startswith(owner or " ") for owner, function in functions_of(crate))
+    files_of = [TOP / f"crates/{crate}/src/{'/'.join(place) or file}.rt" for file in ("lib", "main")]
+    return (None, name) in [(owner, function) for file in files_of if file.is_file() for owner, function, _ in contracts(file)]
 
 
 def wrong_code_amiss():
-    """A line for each block that can't be applied, and for what `tests/REFUSED.md` does not say of the blocks and the edits."""
-    blocks = wrong_code.all_blocks()
-    for block in blocks:
+    for block in wrong_code.all_blocks():
+        if not is_function(block.only):
+            yield f"tests/wrong_code.txt: {block.name}: there is no {block.only}"
         try:
             block.texts(TOP / "crates")
         except (OSError, ValueError) as why:
             yield f"tests/wrong_code.txt: {block.name}: {why}"
-    edits = [path.stem for path in prose.tracked(r"crates/\w+/must-fail/.*\.edit")]
-    text = (TOP / "tests/REFUSED.md").read_text()
-    there, named = [*edits, *(block.name for block in blocks)], re.findall(r"`(\w+-\w+)`", text)
-    yield from (f"tests/REFUSED.md: it doesn't name {name}" for name in there if f"`{name}`" not in text)
-    yield from (f"tests/REFUSED.md: it names {name}, which isn't there" for name in named if name not in there)
-    for count in (f"{len(edits)} edits", wrong_code.counts(blocks)):
-        if count not in text:
-            yield f"tests/REFUSED.md: these are {count}"
+
+
+def private_names():
+    for path in tracked(r"crates/(?!cobs/)\w+/(src|specs|proofs)/.*\.(rt|antt)"):
+        # The callers show that the public clauses are enough. The library for C may use the lemmas of cobs.
+        own = r"Rattle\.cobs\.specs\.declared\.[a-z]" + ("" if "/cobs_c/" in str(path) else r"|Rattle\.cobs\.proofs")
+        for number, line in enumerate(path.read_text().splitlines(), 1):
+            if re.search(own, line):
+                yield f"{path.relative_to(TOP)}:{number}: names a proof or a private module of cobs"
+
+
+CHECKS = (dead_links, dead_commands, scripts_that_do_not_run, unknown_names, other_versions, other_copies, other_counts)
+CHECKS += (items_without_example, examples.complaints, wrong_code_amiss, private_names)
 
 
 def main():
     if "--write" in sys.argv[1:]:
         examples.write()
-        wrong_code.write([], some=True)
-        names.write()
-        where.write()
-    said = [*items_without_example(), *examples.complaints(), *files_off_map(), *names_without_file(), *private_names(), *wrong_code_amiss(), *calls.complaints(), *signs.complaints(), *names.complaints(), *where.complaints()]
-    head, heading, tail = CALLING.read_text().partition(HEADING)
-    before = tail.partition("```text\n")[0]
-    wanted = head + heading + before + all_contracts()
-    if "--write" in sys.argv[1:]:
-        CALLING.write_text(wanted)
-    elif CALLING.read_text() != wanted:
-        said.append(f"{CALLING.relative_to(TOP)}: its contracts are not those of src; tests/docs.py --write writes them")
-    said += [*layout.complaints(), *prose.complaints(), *facts.complaints()]
-    grown = [f"grew: {line}" for line in growth.since_parent()]
-    hints = [f"hint: {line}" for line in (*prose.unplain_words(), *prose.comments_without_verb())]
-    print(*grown, *hints, sep="\n", end="\n" * bool(grown or hints))
-    print("\n".join(said) if said else "each public item has an example that is run; the documents name and quote what is there")
-    return 1 if said else 0
+        CALLING.write_text(with_contracts())
+    said = [line for check in CHECKS for line in check()]
+    if CALLING.read_text() != with_contracts():
+        said.append("crates/cobs/CALLING.md: its contracts aren't those of src; tests/docs.py --write writes them")
+    print("\n".join(said) or "the documents name and quote what is there")
+    return bool(said)
 
 
 sys.exit(main())

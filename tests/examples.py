@@ -2,22 +2,22 @@
 tests/docs.py.
 
 An example in a doc comment is a function, or statements that use `rt` and `alloc`. The examples of a file or folder of
-crates/cobs/src are one file of crates/cobs_doc_vectors/src, below its imports: each function as it is, and each list of
+crates/cobs/src are one file of crates/cobs_vectors/src, below its imports: each function as it is, and each list of
 statements as a test. The examples of README.md and CALLING.md are in the crates of callers, or are tests.
 """
 import re
+import shutil
+import subprocess
 from itertools import takewhile
-from pathlib import Path
 
-import prose
+from tree import BLOCK, TOP, tracked
 
-TOP = Path(__file__).resolve().parent.parent
 SRC = TOP / "crates/cobs/src"
-TESTS = TOP / "crates/cobs_doc_vectors/src"
+TESTS = TOP / "crates/cobs_vectors/src"
 # Each file of tests, and what its examples are from.
 SOURCES = {
     "doc_encoders": ["lib.rt", "enc.rt", "enc/*.rt"],
-    "doc_decoding": ["error.rt", "find.rt", "dec/each.rt", "dec/forms.rt", "dec/in_place.rt", "dec/kind.rt", "dec/state.rt", "dec/whole.rt"],
+    "doc_decoding": ["error.rt", "find.rt", "lanes.rt", "dec/forms.rt", "dec/in_place.rt", "dec/kind.rt", "dec/state.rt", "dec/whole.rt"],
     "doc_decoders": ["dec/buffered.rt", "dec/frame_decoder.rt", "dec/heapless.rt", "dec/step.rt", "dec/unbuffered.rt"],
     "doc_streams": ["stream.rt", "framed.rt"],
     "doc_laws": ["laws.rt", "laws/*.rt"],
@@ -25,7 +25,6 @@ SOURCES = {
 CALLERS = [TOP / f"crates/cobs_vectors/src/{name}.rt" for name in ("callers", "clients", "worked_callers")]
 PAGES = [TOP / "README.md", TOP / "crates/cobs/CALLING.md"]
 MODULES = {"lib.rt": "crate"}
-TYPE = re.compile(r"(?:pub )?(?:impl|trait)\b(?:<[^{]*?>)? *(?:\w+(?:<.*>)? for )?(\w+).*\{$")
 ITEM = re.compile(r" *(?:pub )?(?:fn|struct|enum|trait|type|const) (\w+)")
 
 
@@ -45,7 +44,7 @@ def blocks(path, kind):
             for example in found[unnamed:]:
                 example[1] = example[1] or (f"{owner}::{item[1]}" if owner and line[0] == " " else item[1])
             unnamed = len(found)
-        if type_of := TYPE.match(line):
+        if type_of := BLOCK.match(line):
             owner = type_of[1]
         elif line == "}":
             owner = ""
@@ -105,20 +104,22 @@ def each_test(text):
 
 def write():
     """Writes the tests of the examples below their imports. A test of which only the layout would change stays as it is;
-    `rt fmt` lays out the others."""
+    `rt fmt` lays out the others, where it is there."""
     for name in SOURCES:
         path = TESTS / f"{name}.rt"
         head, tests = head_and_tests(path)
         there = {without_layout(test): test.strip() for test in each_test(tests)}
         wanted = [there.get(without_layout(test), test.strip()) for test in each_test(as_tests(name))]
         path.write_text(head + "\n\n".join(wanted) + "\n")
+    if shutil.which("rt"):
+        subprocess.run(["rt", "fmt"], cwd=TESTS.parent, check=True)
 
 
 def stale_tests():
     """A line for each file of tests that isn't what its doc comments say, with the first difference, and for each file of
     src with examples that is in no file of tests."""
     covered = {path for patterns in SOURCES.values() for pattern in patterns for path in SRC.glob(pattern)}
-    for path in sorted({*prose.tracked(r"crates/cobs/src/.*\.rt")} - covered):
+    for path in sorted({*tracked(r"crates/cobs/src/.*\.rt")} - covered):
         if blocks(path, ""):
             yield f"{path.relative_to(TOP)}: SOURCES in tests/examples.py doesn't name it"
     for name in SOURCES:
@@ -146,7 +147,7 @@ def unprinted_answers():
         printed = [(number, [line.strip() for line in lines if line]) for number, _, lines in blocks(path, "antt")]
         for number, lines in printed:
             if lines not in answers.values():
-                yield f"{path.relative_to(TOP)}:{number}: cobs_doc_vectors has no such answer"
+                yield f"{path.relative_to(TOP)}:{number}: cobs_vectors has no such answer"
         for number, _, lines in blocks(path, ""):
             name = re.match(r"fn (\w+)", lines[0])
             if name and name[1] in answers and answers[name[1]] not in [answer for _, answer in printed]:

@@ -4,7 +4,7 @@
 #
 # usage: tests/fail-alloc.sh [--rounds N] [FIRST]
 #
-# The script runs two files of tests again and again, without proofs: crates/cobs_frame_vectors/src/memory.rt and
+# The script runs two files of tests again and again, without proofs: crates/cobs_vectors/src/memory.rt and
 # crates/cobs_tool/src/memory_limits.rt. In round N, the Nth request for more memory that a test makes fails.
 #
 # In the first file each call has a separate test, which knows whether a request of the call failed. If a request failed and the
@@ -98,17 +98,15 @@ fail_growths() {
     exit 1
 }
 
-copy cobs_bytes ''
 copy cobs ''
 copy cobs_lines ''
-copy cobs_vectors ''
-copy cobs_frame_vectors 'memory|messages|slices'
+copy cobs_vectors 'bytes|memory|messages|reference|slices'
 copy cobs_tool 'memory_limits'
 failing='ONE_GROWTH_FAILS: bool ='
-sed -i "s/^const $failing false;$/const $failing true;/" "$work/crates/cobs_frame_vectors/src/memory.rt"
-if ! grep -q "^const $failing true;$" "$work/crates/cobs_frame_vectors/src/memory.rt"; then
-    echo "crates/cobs_frame_vectors/src/memory.rt has no line 'const $failing false;'"
+sed -i "s/^const $failing false;$/const $failing true;/" "$work/crates/cobs_vectors/src/memory.rt"
+if ! grep -q "^const $failing true;$" "$work/crates/cobs_vectors/src/memory.rt"; then
+    echo "crates/cobs_vectors/src/memory.rt has no line 'const $failing false;'"
     exit 2
 fi
-fail_growths cobs_frame_vectors 1 ''
+fail_growths cobs_vectors 1 ''
 fail_growths cobs_tool 3 memory_limits::with_enough_memory_every_mode_writes_its_output

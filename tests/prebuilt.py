@@ -4,8 +4,8 @@
 usage: tests/prebuilt.py [--write NAME..]
 
 prebuilt.sums has, for each of BUILDS, the toolchain that built it, and the sums of its crates (their .rt and .antt files,
-and their lines of crates.txt, for the crate and all below it), of the files that build it, and of what was built. All
-sources of Rattle and of C are summed without their comments: no comment gets into what is built, so who mends one needs
+and their lines of crates.txt, for the crate and all below it), of the files that build it, and of what was built. The
+sources of Rattle are summed without their comments: no comment gets into what is built, so who mends one needs
 no toolchain. --write is for the commands that build, which call it at their end. Here the sums are compared, which takes
 a second: it prints what differs and the command that builds it again, and the status is then 1. tests/release.sh builds
 all again and compares the bytes.
@@ -25,12 +25,6 @@ BUILDS = {
         "make -C bindings/c prebuilt",
         ["bindings/c/prebuilt.sh", "bindings/c/hardened.sh", "bindings/c/kit.sh"],
         ["bindings/c/prebuilt/*-linux/libjcobs.a"],
-    ),
-    "device": (
-        "cobs_small",
-        "PREBUILT=1 bindings/c/device/build.sh",
-        ["bindings/c/device/build.sh", "bindings/c/kit.sh", "bindings/c/device/calls/*", "bindings/c/include/jcobs.h", "bindings/c/source/simplify.py"],
-        ["bindings/c/device/src/*/*", "bindings/c/source/cobs_small.ll"],
     ),
     "web": (
         "cobs_c",
@@ -66,8 +60,7 @@ def with_those_below(crates, lines):
 # of an .antt file has two hyphens between spaces.
 RT_COMMENT = re.compile(r"""("(?:\\.|[^"\\])*"|'(?:\\.|[^'\\])')|//.*?(?=\n|\Z)""", re.DOTALL)
 ANTT_COMMENT = re.compile(r"()(?:^|(?<=\s))--(?=\s|$).*$", re.MULTILINE)
-C_COMMENT = re.compile(r"""("(?:\\.|[^"\\])*"|'(?:\\.|[^'\\])+')|/\*.*?\*/|//.*?(?=\n|\Z)""", re.DOTALL)
-COMMENTS = {".rt": RT_COMMENT, ".antt": ANTT_COMMENT, ".c": C_COMMENT, ".h": C_COMMENT}
+COMMENTS = {".rt": RT_COMMENT, ".antt": ANTT_COMMENT}
 
 
 def without_comments(path):
@@ -85,12 +78,9 @@ def sum_of_crate(crate, line):
 
 
 def sums_of_files(patterns):
-    """The sums of files: of a source without its comments, of any other file as it is."""
-    found = {}
-    for path in sorted(path for pattern in patterns for path in TOP.glob(pattern)):
-        contents = without_comments(path).encode() if path.suffix in COMMENTS else path.read_bytes()
-        found[str(path.relative_to(TOP))] = sha256(contents).hexdigest()
-    return found
+    """The sums of files."""
+    paths = sorted(path for pattern in patterns for path in TOP.glob(pattern))
+    return {str(path.relative_to(TOP)): sha256(path.read_bytes()).hexdigest() for path in paths}
 
 
 def sums(name, toolchain):
@@ -131,16 +121,24 @@ def complaints(name, recorded, toolchain):
             yield f"{thing}: it has changed"
 
 
+def toolchain():
+    return re.search(r"rattle-kit-\S+ logic \w+", (TOP / "README.md").read_text())[0]
+
+
+def stale():
+    """For each of BUILDS the lines that say what isn't as it was when this was built."""
+    return {name: [*complaints(name, recorded, toolchain())] for name, recorded in read().items()}
+
+
 def main():
     if sys.argv[1:2] == ["--write"]:
         return write(sys.argv[2:])
-    toolchain = re.search(r"rattle-kit-\S+ logic \w+", (TOP / "README.md").read_text())[0]
-    said = {name: [*complaints(name, recorded, toolchain)] for name, recorded in read().items()}
+    said = stale()
     for name, lines in said.items():
         if lines:
             print(f"since `{BUILDS[name][1]}`:", *lines, "    Run it again, and commit what it wrote.", sep="\n")
     if not any(said.values()):
-        print(f"the libraries, the programs and the module are built from these sources, by {toolchain}")
+        print(f"the libraries, the programs and the module are built from these sources, by {toolchain()}")
     return any(said.values())
 
 

@@ -124,11 +124,7 @@ fi
 if has python3 python3 'the documents'; then
     part 'C: jcobs.c is translated from the proved module' "$c/source/translate.py" --check
     part 'C: its functions are the proved ones' "$c/tests/translated.py"
-    if rustfmt --version >/dev/null 2>&1; then
-        part 'Rust: its functions are the proved ones' "$root/bindings/rust/tests/proved.py"
-    else
-        skip 'Rust: its functions are the proved ones' "needs rustfmt"
-    fi
+    part 'Rust: its functions are the proved ones' "$root/bindings/rust/tests/proved.py"
     part 'Rust: no call codes by hand' "$root/bindings/rust/tests/by_hand.py"
     part 'what is built is of these sources' "$root/tests/prebuilt.py"
     part 'the documents' "$root/tests/docs.py"

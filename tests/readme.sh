@@ -59,7 +59,7 @@ export npm_config_offline npm_config_audit npm_config_fund
 # Why a line of a README isn't run; nothing if it is.
 why_not() { # LINE
     case $1 in
-    'cobs: '* | 'cobs_bytes:' | 'app: '*) echo 'a line of crates.txt' ;;
+    'cobs: '* | 'app: '*) echo 'a line of crates.txt' ;;
     rt' '* | *'&& '*' rt '*) echo 'needs rt' ;;
     'bindings/web/build.sh '*'# cobs.wasm'*) echo 'needs rt' ;;
     tests/*.sh* | check/run.sh*) echo 'a test of its own' ;;

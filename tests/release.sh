@@ -104,13 +104,13 @@ END
 device_archive() {
     there=$work/device/$name_of-device
     mkdir -p "$there" &&
-        (cd "$tree/bindings/c/device" && cp -R README.md src cmake examples zephyr library.json library.properties platformio.py CMakeLists.txt idf_component.yml \
+        (cd "$tree/bindings/c/device" && cp -R README.md src cmake examples zephyr library.json library.properties CMakeLists.txt idf_component.yml \
             "$there") &&
         names_repository "$there/library.properties" '^category=' "url=$repository" &&
         names_repository "$there/library.json" '^  "license": ' "  \"repository\": {\"type\": \"git\", \"url\": \"$repository\"}," &&
         names_repository "$there/idf_component.yml" '^description: ' "url: $repository" &&
-        cp "$tree"/LICENSE-* "$there" && cp "$tree/bindings/c/include/jcobs.h" "$there/src/jcobs.h" &&
-        sed -i 's,`\.\./,`bindings/c/,g' "$there/README.md" &&
+        cp "$tree"/LICENSE-* "$there" && cp "$tree"/bindings/c/source/jcobs.c "$tree"/bindings/c/include/* "$there/src" &&
+        sed -i 's,\.\./\(source\|include\)/jcobs\.,src/jcobs.,g; s,`\.\./,`bindings/c/,g; /^In the repository, /d' "$there/README.md" &&
         packed "$folder/$name_of-device.tar.gz" "$work/device" "$name_of-device"
 }
 
@@ -272,13 +272,11 @@ int main(void)
     exit(0);
 }
 PROGRAM
-        for library in cortex-m4/libjcobs.a jcobs.c; do
-            arm-none-eabi-gcc -mcpu=cortex-m4 -mthumb -Os -std=c99 -I"$there/src" --specs=rdimon.specs \
-                -T "$tree/bindings/c/device/tests/mps2.ld" "$tree/bindings/c/device/tests/start_arm.c" "$work/device.c" \
-                "$there/src/$library" -o "$work/device.elf" &&
-                writes '0 hello\n' timeout 900 qemu-system-arm -M mps2-an386 -nographic -monitor none -serial null \
-                    -semihosting-config enable=on,target=native,arg=program -kernel "$work/device.elf" || return 1
-        done
+        arm-none-eabi-gcc -mcpu=cortex-m4 -mthumb -Os -std=c99 -I"$there/src" --specs=rdimon.specs \
+            -T "$tree/bindings/c/device/tests/mps2.ld" "$tree/bindings/c/device/tests/start_arm.c" "$work/device.c" \
+            "$there/src/jcobs.c" -o "$work/device.elf" &&
+        writes '0 hello\n' timeout 900 qemu-system-arm -M mps2-an386 -nographic -monitor none -serial null \
+            -semihosting-config enable=on,target=native,arg=program -kernel "$work/device.elf"
 }
 
 python_runs() { # COMMAND..: it installs
@@ -337,7 +335,6 @@ if [ "$again" = no ]; then
 elif command -v rt >/dev/null || [ -x /opt/rattle/bin/rt ]; then
     part 'the libraries, built again' libraries_again
     part 'the module, built again' module_again
-    part 'the libraries for microcontrollers, built again' "$root/bindings/c/device/build.sh"
     [ ! -e "$tree/bindings/programs/x86_64-linux" ] || part 'the programs, built again' programs_again
 else
     skip 'the libraries, the programs and the module, built again' "needs Rattle's toolchain"

@@ -9,7 +9,7 @@
 
 #include "jcobs.h"
 
-enum { LONGEST = 70000 };
+enum { LONGEST = 70000, SHORT = 16 };
 
 volatile unsigned searches;
 static unsigned copies, moves;
@@ -53,17 +53,18 @@ static void fail(const char *what, size_t size) {
     failed = 1;
 }
 
-/* Each way to decode a message of this size: one search a call, and a slice, from 66 bytes on. In place the bytes are moved by
-   instructions that the compiler writes for `copy_within`, so only the search is counted. */
+/* Each way to decode a message of this size: a search and a slice in each call that gets more than 16 bytes, and a slice for
+   each 254 bytes of the message. In place the bytes are moved by instructions that the compiler writes for `copy_within`, so only
+   the search is counted. */
 static void decode_all(const char *data, size_t size) {
     jcobs_answer encoded = jcobs_encode(message, size, frame, sizeof frame);
     size_t len = encoded.length;
     frame[len] = 0;
-    unsigned least = size >= 66 ? 1 : 0;
+    unsigned least = len > SHORT ? 1 : 0, slices = least ? (unsigned)((size + 253) / 254) : 0;
 
     start();
     jcobs_answer whole = jcobs_decode(frame, len + 1, room, sizeof room);
-    row("decode", data, size, least, least);
+    row("decode", data, size, least, slices);
     if (whole.status != JCOBS_OK || whole.length != size || memcmp(room, message, size) != 0) {
         fail("decode", size);
     }
@@ -71,7 +72,7 @@ static void decode_all(const char *data, size_t size) {
     jcobs_decoder decoder = JCOBS_DECODER_INIT;
     start();
     jcobs_answer pushed = jcobs_decoder_push(&decoder, room, sizeof room, frame, len + 1);
-    row("push, whole", data, size, least, least);
+    row("push, whole", data, size, least, slices);
     if (pushed.status != JCOBS_OK || pushed.length != size || memcmp(room, message, size) != 0) {
         fail("push", size);
     }
@@ -82,8 +83,8 @@ static void decode_all(const char *data, size_t size) {
         size_t piece = len + 1 - at < 64 ? len + 1 - at : 64;
         pushed = jcobs_decoder_push(&decoder, room, sizeof room, frame + at, piece);
     }
-    unsigned full = (unsigned)(len / 64);
-    row("push, 64 bytes a call", data, size, least ? full : 0, least);
+    unsigned chunks = (unsigned)(len / 64 + (len % 64 + 1 > SHORT));
+    row("push, 64 bytes a call", data, size, chunks, chunks);
     if (pushed.status != JCOBS_OK || pushed.length != size || memcmp(room, message, size) != 0) {
         fail("push of 64", size);
     }
@@ -97,8 +98,20 @@ static void decode_all(const char *data, size_t size) {
     }
 }
 
-/* Each way to encode the message: from the first full block on, runs are searched and copied as slices. */
-static void encode_all(const char *data, size_t size, unsigned least) {
+/* Each way to encode the message: a search and a slice for each run of more than 32 bytes, and for each 254 bytes of it. (Up to 16
+   bytes of a run after a short one, and up to 16 bytes at its end, are copied one by one.) */
+static void encode_all(const char *data, size_t size) {
+    unsigned least = 0;
+    for (size_t start = 0; start < size;) {
+        size_t end = start;
+        while (end < size && message[end] != 0) {
+            end++;
+        }
+        if (end - start > 2 * SHORT) {
+            least += 1 + (unsigned)((end - start - 2 * SHORT - 1) / 254);
+        }
+        start = end + 1;
+    }
     start();
     jcobs_answer encoded = jcobs_encode(message, size, frame, sizeof frame);
     row("encode", data, size, least, least);
@@ -122,10 +135,11 @@ static void fill(const char *data, size_t size) {
             byte = 1;
         } else if (strcmp(data, "a zero in 8") == 0) {
             byte = i % 8 == 7 ? 0 : (unsigned char)(byte | 1);
-        } else if (strcmp(data, "runs of 300") == 0) {
-            byte = i % 301 == 300 ? 0 : 1;
-        } else if (strcmp(data, "runs of 600") == 0) {
-            byte = i % 601 == 600 ? 0 : 1;
+        } else if (strncmp(data, "runs of ", 8) == 0) {
+            size_t run = (size_t)atoi(data + 8);
+            byte = i % (run + 1) == run ? 0 : 1;
+        } else if (strcmp(data, "packets") == 0) { /* 20 bytes, every other one a zero, and then 200 without one */
+            byte = i % 220 < 20 && i % 2 != 0 ? 0 : (unsigned char)(byte | 1);
         } else if (strcmp(data, "1000, 0, 1000") == 0) {
             byte = i == 1000 ? 0 : 1;
         }
@@ -134,24 +148,17 @@ static void fill(const char *data, size_t size) {
 }
 
 int main(void) {
-    static const size_t sizes[] = {20, 66, 80, 254, 300, 600, 1000, 2001, 7900, 10000, 65536};
-    static const char *const kinds[] = {"ones", "random", "a zero in 8"};
+    static const size_t sizes[] = {16, 17, 20, 66, 80, 254, 300, 600, 1000, 2001, 7900, 10000, 65536};
+    static const char *const kinds[] = {"ones", "random", "a zero in 8", "runs of 33", "runs of 40", "runs of 300", "packets"};
     for (size_t k = 0; k < sizeof kinds / sizeof *kinds; k++) {
         for (size_t i = 0; i < sizeof sizes / sizeof *sizes; i++) {
             fill(kinds[k], sizes[i]);
             decode_all(kinds[k], sizes[i]);
+            encode_all(kinds[k], sizes[i]);
         }
     }
-    fill("ones", 300);
-    encode_all("a run of 300", 300, 1);
-    fill("ones", 600);
-    encode_all("a run of 600", 600, 1);
-    fill("runs of 300", 3010);
-    encode_all("runs of 300", 3010, 10);
-    fill("runs of 600", 6010);
-    encode_all("runs of 600", 6010, 10);
     fill("1000, 0, 1000", 2001);
-    encode_all("1000, 0, 1000", 2001, 2);
+    encode_all("1000, 0, 1000", 2001);
     decode_all("1000, 0, 1000", 2001);
     return failed;
 }

@@ -51,7 +51,7 @@ is_small() { # FILE BYTES
 }
 
 echo "The module"
-part "cobs.wasm is at most 75,776 bytes" is_small "$web/cobs.wasm" 75776
+part "cobs.wasm is at most 20,480 bytes" is_small "$web/cobs.wasm" 20480
 
 if has "$node" nodejs "Node"; then
     if ! "$node" --input-type=module -e "import { isSupported } from '$web/jcobs.js'; process.exit(isSupported() ? 0 : 1)" 2>"$work/said"; then
@@ -60,7 +60,6 @@ if has "$node" nodejs "Node"; then
         echo "Node $("$node" --version), without a flag"
         begin module "$node" --expose-gc "$web/test/module.mjs" "$web/cobs.wasm"
         begin package "$node" "$web/test/package.mjs"
-        begin decode-speed "$node" "$web/test/decode-speed.mjs"
         begin vectors "$node" "$web/test/vectors.mjs" "$web/cobs.wasm" "$root/conformance"
         if has "$chromium" chromium "the page"; then
             for files in first,message canvas,stream line,whole,pictures; do

@@ -1,7 +1,7 @@
 #!/usr/bin/env python3
 """Puts wrong definitions and wrong bodies into copies of the crates, one at a time, and checks that the prover rejects each of them.
 
-usage: tests/wrong_code.py [--jobs N] [--write] [WORD..]
+usage: tests/wrong_code.py [--jobs N] [WORD..]
 
 Each block of tests/wrong_code.txt changes a line or two: a definition in a crate's specs/, or a body in its src/. A block
 begins with a line '== NAME' and ends at an empty line. 'only: CRATE::FUNCTION' names the function that must be rejected.
@@ -15,8 +15,7 @@ lemmas that their proofs cite. N blocks are tried at once (by default one for ea
 
 For each block the script prints a line, in the order of the file: its name, the function that was rejected, and the clauses
 that have no proof. If a loop invariant has no proof, the line has the name of the loop after the word 'loop'. The status is 0 if
-each block was rejected. With --write, the rows of `tests/REFUSED.md` are then written for the blocks that were tried. Without
-words, the rows are written for all blocks, and rows whose block doesn't exist any more are removed.
+each block was rejected.
 """
 import argparse
 import os
@@ -30,7 +29,7 @@ from concurrent.futures import ThreadPoolExecutor
 from pathlib import Path
 
 sys.dont_write_bytecode = True
-import prose
+import tree
 
 TOP = Path(__file__).resolve().parent.parent
 RT = Path(shutil.which("rt") or "/opt/rattle/bin/rt").resolve()
@@ -89,8 +88,12 @@ class Block:
         return texts
 
 
+def texts_of_blocks():
+    return (TOP / "tests/wrong_code.txt").read_text().strip("\n").split("\n\n")
+
+
 def all_blocks():
-    return [Block(text) for text in (TOP / "tests/wrong_code.txt").read_text().strip().split("\n\n")]
+    return [Block(text) for text in texts_of_blocks()]
 
 
 def link(one, other):
@@ -128,7 +131,7 @@ def clauses(crate, function):
         if path.is_file():
             # In a method's path the name of its trait, if it is of one, follows that of its type.
             owner = "".join(place[at:])
-            found = [named for its, fn, named in prose.contracts(path) if fn == name and owner.startswith(its or "")]
+            found = [named for its, fn, named in tree.contracts(path) if fn == name and owner.startswith(its or "")]
             return found[0] if found else []
     return []
 
@@ -201,57 +204,26 @@ def keep(blocks, kept):
     copy(TOP / "crates", kept, crates, *SOURCES, "out/incremental", "out/rlib")
 
 
-def counts(blocks):
-    """What `tests/REFUSED.md` says of how many blocks there are."""
-    of_specs = sum(any(kind == "file" and "/specs/" in said for kind, said in block.changes) for block in blocks)
-    return f"{len(blocks)} blocks: {of_specs} change"
-
-
-def write(lines, some):
-    """Writes what was printed of each block, or of some, into the table of `tests/REFUSED.md`: a row for what was rejected.
-
-    The rows of the other blocks stay, without those that aren't there any more.
-    """
-    blocks, page = all_blocks(), TOP / "tests/REFUSED.md"
-    head, mark, rest = page.read_text().partition("<!-- table -->\n")
-    table, end, rest = rest.partition("<!-- end of table -->")
-    found = {}
-    for rejected, names in re.findall(r"^\| `(.*)` \| (`.*`) \|$", table, re.M) if some else []:
-        found.update(dict.fromkeys(re.findall(r"`([^`]+)`", names), rejected))
-    found.update(lines)
-    rows = {}
-    for block in blocks:
-        if block.name in found:
-            rows.setdefault(found[block.name], []).append(f"`{block.name}`")
-    text = "".join(f"| `{rejected}` | {', '.join(names)} |\n" for rejected, names in sorted(rows.items()))
-    head = re.sub(r"\d+ blocks: \d+ change", counts(blocks), head)
-    page.write_text(f"{head}{mark}\n| rejected | wrong code |\n|---|---|\n{text}\n{end}{rest}")
-
-
 def main():
-    parser = argparse.ArgumentParser(usage="tests/wrong_code.py [--jobs N] [--write] [WORD..]")
+    parser = argparse.ArgumentParser(usage="tests/wrong_code.py [--jobs N] [WORD..]")
     parser.add_argument("--jobs", type=int, default=len(os.sched_getaffinity(0)))
-    parser.add_argument("--write", action="store_true")
     parser.add_argument("words", nargs="*")
     given = parser.parse_args()
     signal.signal(signal.SIGTERM, lambda *_: sys.exit(2))
     blocks = [it for it in all_blocks() if any(word in f"{it.name} {it.only}" for word in given.words or [""])]
-    lines, are_rejected = [], bool(blocks)
+    are_rejected = bool(blocks)
     with tempfile.TemporaryDirectory() as work, ThreadPoolExecutor(given.jobs) as pool:
         kept = Path(work, "kept")
         try:
             keep(blocks, kept)
             for block, (is_rejected, line) in zip(blocks, pool.map(lambda it: attempt(it, kept, work), blocks)):
                 print(f"{block.name}: {line}", flush=True)
-                lines.append((block.name, line))
                 are_rejected = are_rejected and is_rejected
         except BaseException:
             pool.shutdown(wait=False, cancel_futures=True)
             for ran in list(RUNNING):
                 ran.kill()
             raise
-    if given.write and are_rejected:
-        write(lines, some=bool(given.words))
     sys.exit(not are_rejected)
 
 

@@ -116,13 +116,18 @@ def line(style, kind, length, data, color=False):
     title = kind if length is None else f"{kind} {length}"
     if color:
         title = f"\x1b[{COLORS[kind]}m{title}\x1b[0m"
-    if style == "--hexdump":
+    if style == "dump":
         return (title + "\n" + dump(data)).encode()
-    if style == "--raw":
+    if style == "raw":
         return data + b"\n" if kind == "message" else b""
-    if style == "--text" and is_plain(data):
+    if style == "text" and is_plain(data):
         return (title + " " if data else title).encode() + data + b"\n"
     return (title + (" " + data.hex() if data else "") + "\n").encode()
+
+
+def as_(style):
+    """The words that ask for a style; None is the default."""
+    return ["--as", style] if style else []
 
 
 def run(words, stream, status=0, **more):
@@ -203,14 +208,12 @@ def checked_32(piece):
 @part
 def every_view():
     seen, _ = pieces_of(STREAM)
-    for style in (None, "--text", "--raw", "--hexdump"):
-        words = [style] if style else []
-        wanted = b"".join(line(style, *piece) for piece in seen) + (b"" if style == "--raw" else b"unfinished\n")
-        same(run(words, STREAM), wanted)
+    for style in (None, "hex", "text", "raw", "dump"):
+        wanted = b"".join(line(style, *piece) for piece in seen) + (b"" if style == "raw" else b"unfinished\n")
+        same(run(as_(style), STREAM), wanted)
     same(run(["-"], STREAM), run([], STREAM))
     same(run(["show", "-"], STREAM), run([], STREAM))
-    same(run(["-x"], STREAM), run(["--hexdump"], STREAM))
-    same(run(["-j"], STREAM), run(["--json"], STREAM))
+    same(run(["--as=json"], STREAM), run(["--as", "json"], STREAM))
     same(run(["-n"], STREAM), run(["--number"], STREAM))
     numbered = b"".join(str(i + 1).encode() + b" " + line(None, *piece) for i, piece in enumerate(seen))
     same(run(["--number"], STREAM), numbered + b"unfinished\n")
@@ -245,10 +248,10 @@ def partial():
     for stream, limit in ((STREAM, LIMIT), (STREAM, 20), (STREAM, 0), (cut + STREAM, 7)):
         words = ["--partial", "--length", str(limit)]
         seen = partial_pieces_of(stream, limit)
-        for style in (None, "--text", "--hexdump"):
+        for style in (None, "text", "dump"):
             wanted = b"".join(partial_line(style, *piece) for piece in seen) + b"unfinished\n"
-            same(run(words + ([style] if style else []), stream), wanted)
-        found = [json.loads(text) for text in run([*words, "--json"], stream).decode().splitlines()]
+            same(run(words + as_(style), stream), wanted)
+        found = [json.loads(text) for text in run([*words, "--as", "json"], stream).decode().splitlines()]
         for number, (item, (kind, length, data)) in enumerate(zip(found, seen, strict=False), 1):
             fields = {"frame": number, "kind": kind.replace(" ", "-")}
             if length is not None:
@@ -259,9 +262,6 @@ def partial():
                 fields["text"] = text_of(data)
             same(item, fields)
         assert len(found) == len(seen) + 1
-        begin = b"ab".hex()
-        wanted = b"".join(partial_line(None, *piece) for piece in seen if piece[2].startswith(b"ab"))
-        same(run([*words, "--prefix", begin], stream), wanted)
 
 
 @part
@@ -273,11 +273,11 @@ def colors():
         if words:
             seen = [checked_32(piece) for piece in seen]
             assert {piece[0] for piece in seen} == set(COLORS)
-        for style in (None, "--text", "--hexdump"):
+        for style in (None, "text", "dump"):
             wanted = b"".join(line(style, *piece, color=True) for piece in seen) + b"unfinished\n"
-            same(run([*words, "--color", "always"] + ([style] if style else []), stream), wanted)
-        for style in ("--raw", "--json"):
-            same(run([*words, "--color", "always", style], stream), run([*words, style], stream))
+            same(run([*words, "--color", "always", *as_(style)], stream), wanted)
+        for style in ("raw", "json"):
+            same(run([*words, "--color", "always", *as_(style)], stream), run([*words, *as_(style)], stream))
 
 
 def on_a_terminal(words, no_color, term="xterm"):
@@ -320,27 +320,17 @@ def colors_on_a_terminal():
     for term in ("dumb", None):
         same(on_a_terminal([], None, term), plain)
         same(on_a_terminal(["--color", "always"], None, term), colored)
-    # A log has no colours, so neither has the terminal beside it.
-    with tempfile.TemporaryDirectory() as room:
-        for when in ([], ["--color", "auto"], ["--color", "never"]):
-            log = Path(room, "log")
-            same(on_a_terminal([*when, "--log", str(log)], None), plain)
-            same(log.read_bytes(), plain)
-            log.unlink()
     # Into a pipe there are no colours unless they are asked for.
     same(run([], b"\x02a\0\x05b\0"), plain)
     same(run(["--color", "auto"], b"\x02a\0\x05b\0"), plain)
 
 
 @part
-def exact_bytes_and_captures():
+def captures():
     seen, _ = pieces_of(STREAM)
     whole = [data for kind, _, data in seen if kind == "message"]
-    same(run(["--bytes"], STREAM), b"".join(whole))
-    for message in whole:
-        same(run(["--bytes"], encode(message) + b"\0"), message)
     begin = time.time()
-    shown = run(["--pcap"], STREAM)
+    shown = run(["--as", "pcap"], STREAM)
     end = time.time()
     same(shown[:24], struct.pack("<IHHiIII", 0xA1B2C3D4, 2, 4, 0, 0, 1 << 24, 147))
     found, at = [], 24
@@ -350,10 +340,10 @@ def exact_bytes_and_captures():
         found.append(shown[at + 16 : at + 16 + length])
         at += 16 + length
     assert found == whole
-    same(run(["--pcap"], b""), shown[:24])
+    same(run(["--as", "pcap"], b""), shown[:24])
     if shutil.which("tshark"):
         with tempfile.NamedTemporaryFile(suffix=".pcap") as held:
-            held.write(run(["--pcap"], STREAM))
+            held.write(shown)
             held.flush()
             words = ["tshark", "-r", held.name, "-T", "fields", "-e", "frame.len"]
             read = subprocess.run(words, stdout=subprocess.PIPE, stderr=subprocess.DEVNULL, check=True).stdout
@@ -363,7 +353,7 @@ def exact_bytes_and_captures():
 @part
 def json_lines():
     seen, _ = pieces_of(STREAM)
-    shown = run(["--json"], STREAM).decode()
+    shown = run(["--as", "json"], STREAM).decode()
     assert not any(is_hidden(c) for c in shown.replace("\n", "")), shown
     found = [json.loads(text) for text in shown.splitlines()]
     wanted = []
@@ -377,6 +367,8 @@ def json_lines():
                 item["text"] = text_of(data)
         wanted.append(item)
     assert found == wanted + [{"kind": "unfinished"}], (found, wanted)
+    # The number is there already.
+    same(run(["--as", "json", "--number"], STREAM).decode(), shown)
 
 
 def timed(words, gaps, clock, **more):
@@ -418,9 +410,9 @@ def times():
     for number, _ in enumerate(gaps):
         assert lies_between(0, last[2 * number + 1], shown[number] - sent[number]), last
     start = time.monotonic()
-    seen = [json.loads(text) for text in run(["--json", "--time", "start"], STREAM).decode().splitlines()]
+    seen = [json.loads(text) for text in run(["--as", "json", "--time", "start"], STREAM).decode().splitlines()]
     passed = time.monotonic() - start
-    plain = [json.loads(text) for text in run(["--json"], STREAM).decode().splitlines()]
+    plain = [json.loads(text) for text in run(["--as", "json"], STREAM).decode().splitlines()]
     assert all(lies_between(0, item.pop("time"), passed) for item in seen[:-1]) and seen == plain, seen
 
 
@@ -445,7 +437,7 @@ def dates():
             # Both parts of the sum, the clock at the start and the time since, are cut to milliseconds.
             assert lies_between(sent[number // 2], date.timestamp(), shown[number // 2], 0.002), (zone, text)
     begin = time.time()
-    item = json.loads(run(["--json", "--time", "local"], b"\x02a\0", env={**os.environ, "TZ": "XYZ3:30"}))
+    item = json.loads(run(["--as", "json", "--time", "local"], b"\x02a\0", env={**os.environ, "TZ": "XYZ3:30"}))
     date = datetime.datetime.fromisoformat(item["time"])
     assert item["time"].endswith("-03:30") and lies_between(begin, date.timestamp(), time.time(), 0.002), item
     # A zone that was asked for and can't be read is reported.
@@ -458,28 +450,18 @@ def dates():
 @part
 def every_filter():
     seen, _ = pieces_of(STREAM)
-    size = {"message": lambda p: p[1], "broken": lambda p: p[1], "too long": lambda p: 2**64 - 1}
     filters = [
         (["--only", "message"], lambda p: p[0] == "message"),
         (["--only", "broken"], lambda p: p[0] == "broken"),
         (["--only", "too-long"], lambda p: p[0] == "too long"),
         (["--only", "broken", "--only", "too-long"], lambda p: p[0] != "message"),
         (["-o", "broken,too-long"], lambda p: p[0] != "message"),
-        (["--min", "0x11"], lambda p: size[p[0]](p) >= 17),
-        (["--min", "17"], lambda p: size[p[0]](p) >= 17),
-        (["--max", "17"], lambda p: size[p[0]](p) <= 17),
-        (["--min", "5", "--max", "5"], lambda p: size[p[0]](p) == 5),
-        (["--prefix", "6865"], lambda p: p[2].startswith(b"he")),
-        (["--prefix", "FF"], lambda p: p[2].startswith(b"\xff")),
     ]
     for words, keeps in filters:
         wanted = b"".join(str(i + 1).encode() + b" " + line(None, *p) for i, p in enumerate(seen) if keeps(p))
         same(run(["--number", *words], STREAM), wanted)
     same(run(["--only", "unfinished"], STREAM), b"unfinished\n")
-    # A filter that lets every piece through is one too.
-    for words in (["--min", "0"], ["--max", "18446744073709551615"], ["--prefix", ""]):
-        same(run(words, STREAM), b"".join(line(None, *piece) for piece in seen))
-    same(run(["--json", "--only", "unfinished,broken", "--min", "9"], STREAM), b'{"kind":"unfinished"}\n')
+    same(run(["--as", "json", "--only", "unfinished,too-long"], STREAM).splitlines()[-1], b'{"kind":"unfinished"}')
 
 
 def crc(data, width, poly, start, reflected, end):
@@ -526,12 +508,12 @@ def checksums():
                 data = whole if kind == "bad crc" else message
                 seen.append((kind, len(data), data))
             words = ["--crc", name] + (["--crc-order", order] if order else [])
-            for style in (None, "--text", "--hexdump", "--raw"):
+            for style in (None, "text", "dump", "raw"):
                 wanted = b"".join(line(style, *piece) for piece in seen)
-                same(run(words + ([style] if style else []), stream), wanted)
+                same(run(words + as_(style), stream), wanted)
             bad = b"".join(line(None, *piece) for piece in seen if piece[0] == "bad crc")
             same(run([*words, "--only", "bad-crc"], stream), bad)
-            kinds = [json.loads(text)["kind"] for text in run([*words, "--json"], stream).decode().splitlines()]
+            kinds = [json.loads(text)["kind"] for text in run([*words, "--as", "json"], stream).decode().splitlines()]
             same(kinds, [piece[0].replace("bad crc", "bad-crc") for piece in seen])
             counted = subprocess.run([WATCH, *words, "--count"], input=stream, capture_output=True, check=True)
             same(
@@ -552,7 +534,7 @@ def sent_checksums():
             frames = b"".join(encode(line_ + sum_) + b"\0" for line_, sum_ in zip(lines, sums))
             same(run(["send", *words], text), frames)
             same(run(["send", "--hex", *words], digits), frames)
-            same(run([*words, "--raw"], frames), text)
+            same(run([*words, "--as", "raw"], frames), text)
     for sentinel in (1, 10, 255):
         words = ["--sentinel", str(sentinel), "--crc", "crc-32"]
         frames = run(["send", *words], text)
@@ -560,7 +542,7 @@ def sent_checksums():
         seen, begun = pieces_of(turned)
         same([(kind, data) for kind, _, data in seen], [("message", crc_32(line_)) for line_ in lines])
         assert not begun and frames.count(bytes([sentinel])) == len(lines)
-        same(run([*words, "--raw"], frames), text)
+        same(run([*words, "--as", "raw"], frames), text)
     same(run(["send"], text), b"".join(encode(line_) + b"\0" for line_ in lines))
 
 
@@ -578,7 +560,7 @@ def checksums_with_times_and_numbers():
         wanted.append(("bad-crc" if wrong else "message", len(data), data))
     words = ["--crc", "crc-16-modbus", "--time", "start"]
     start = time.monotonic()
-    objects = [json.loads(text) for text in run([*words, "--json"], stream).decode().splitlines()]
+    objects = [json.loads(text) for text in run([*words, "--as", "json"], stream).decode().splitlines()]
     lines = run([*words, "--number"], stream).decode().splitlines()
     passed = time.monotonic() - start
     assert len(objects) == len(lines) == len(wanted), (objects, lines)
@@ -593,7 +575,7 @@ def checksums_with_times_and_numbers():
         seconds, _, rest = text.partition(" ")
         assert len(seconds.partition(".")[2]) == 3 and lies_between(0, float(seconds), passed), text
         same(rest, f"{number} " + line(None, kind.replace("-", " "), length, data or b"").decode().rstrip("\n"))
-    only = run([*words, "--json", "--only", "bad-crc"], stream).decode().splitlines()
+    only = run([*words, "--as", "json", "--only", "bad-crc"], stream).decode().splitlines()
     same([json.loads(text)["frame"] for text in only], [i for i, piece in enumerate(wanted, 1) if piece[0] == "bad-crc"])
 
 
@@ -616,7 +598,7 @@ def sentinels_and_lengths():
         frames = run(["send", "--sentinel", str(sentinel)], lines)
         assert frames.count(bytes([sentinel])) == 3
         same(
-            run(["--sentinel", str(sentinel), "--length", "4", "--text"], frames),
+            run(["--sentinel", str(sentinel), "--length", "4", "--as", "text"], frames),
             b"message 4 line\ntoo long\nmessage 0\n",
         )
 
@@ -626,22 +608,18 @@ def wrong_words():
     for words in (
         ["--length", "many"],
         ["--only", "all"],
-        ["--prefix", "6"],
-        ["--prefix", "gg"],
-        ["--text", "--raw"],
-        ["--min", "-1"],
-        ["--min", "0xg"],
-        ["--min", "5", "--max", "4"],
+        ["--as", "bytes"],
+        ["--as"],
+        ["--text"],
         ["--only", "message,all"],
         ["--length", "16777217"],
         ["--sentinel", "256"],
-        ["--count-every", "4294967296"],
-        ["--number", "--json"],
-        ["--time", "start", "--raw"],
-        ["--partial", "--raw"],
-        ["--pcap", "--raw"],
-        ["--pcap", "--time", "utc"],
-        ["--bytes", "--json"],
+        ["--number", "--as", "raw"],
+        ["--time", "start", "--as", "raw"],
+        ["--partial", "--as", "raw"],
+        ["--as", "pcap", "--number"],
+        ["--as", "pcap", "--time", "utc"],
+        ["--as", "pcap", "--partial"],
         ["--time", "then"],
         ["--color", "sometimes"],
         ["--crc", "crc-7"],
@@ -654,10 +632,8 @@ def wrong_words():
         ["--crc", "init=1"],
         ["--crc", "poly=1,poly=2"],
         ["--crc", "poly=1,reflected,reflected"],
-        ["--reconnect"],
-        ["--reconnect", "--count"],
-        ["--reconnect", "-"],
-        ["--color", "always", "--log", "/dev/null"],
+        ["--baud", "9600"],
+        ["send", "--baud", "9600"],
         ["send", "--crc", "crc-7"],
         ["send", "--crc-order", "big"],
     ):
@@ -665,31 +641,43 @@ def wrong_words():
             [WATCH, *words], input=b"\x02a\0", stdout=subprocess.PIPE, stderr=subprocess.PIPE, timeout=120, check=False
         )
         assert (done.returncode, done.stdout) == (2, b"") and done.stderr, (words, done)
+        # The error of a wrong value names those that it may be; another has the usage of what was asked for.
+        usage = rb"Usage: cobs_watch send " if words[0] == "send" else rb"Usage: cobs_watch (?!send)"
+        assert re.search(rb"\[possible values: |" + usage, done.stderr), (words, done)
     # The names of checksums are said.
     for name in ("crc-16", "CRC-32"):
         done = subprocess.run([WATCH, "--crc", name], input=b"", capture_output=True, timeout=120, check=False)
         assert done.returncode == 2 and all(known.encode() in done.stderr for known in CHECKSUMS if known.startswith("crc-")), done
-    for words in ([b"caf\xe9"], [b"--log", b"\xff"], [b"send", b"\xff"]):
+    # What sets the rate is said.
+    for words in (["--baud", "9600", "/dev/null"], ["show", "--baud=9600"], ["send", "--baud", "9600"]):
+        done = subprocess.run([WATCH, *words], input=b"", capture_output=True, timeout=120, check=False)
+        assert done.returncode == 2 and b"stty -F /dev/ttyUSB0 raw -echo 9600\n" in done.stderr, done
+    for words in ([b"caf\xe9"], [b"--only", b"\xff"], [b"send", b"\xff"]):
         done = subprocess.run([WATCH, *words], input=b"\x02a\0", capture_output=True, timeout=120, check=False)
         said = b"error: an argument that isn't UTF-8 can't be used\n\nUsage: cobs_watch"
         assert (done.returncode, done.stdout) == (2, b"") and done.stderr.startswith(said), (words, done)
     done = subprocess.run(
         [WATCH, "send", "--hex"],
-        input=b"00 ff\r\nzz\n",
+        input=b"00 ff\r\nzz\n0 0 0\n\n0x1\n",
         stdout=subprocess.PIPE,
         stderr=subprocess.PIPE,
         timeout=120,
         check=False,
     )
-    assert (done.returncode, done.stdout) == (1, b"\x01\x02\xff\0") and b"line 2" in done.stderr, done
+    same((done.returncode, done.stdout), (1, b"\x01\x02\xff\0\x01\0"))
+    lines = [
+        b"cobs_watch: line 2: not hexadecimal digits",
+        b"cobs_watch: line 3: an odd number of hexadecimal digits",
+        b"cobs_watch: line 5: not hexadecimal digits",
+    ]
+    same(done.stderr.splitlines(), lines)
 
 
 TOPICS = {
     "Options": ["--help", "--version"],
-    "Styles": ["--text", "--raw", "--hexdump", "--json", "--bytes", "--pcap", "--partial", "--number", "--time", "--color"],
-    "Filters": ["--only", "--min", "--max", "--prefix"],
+    "Output": ["--as", "--only", "--number", "--time", "--partial", "--color"],
     "Checksums": ["--crc", "--crc-order"],
-    "The stream": ["--length", "--sentinel", "--skip-first", "--count", "--count-every", "--reconnect", "--log"],
+    "The stream": ["--length", "--sentinel", "--skip-first", "--count"],
 }
 SEND_TOPICS = {"Options": ["--hex", "--sentinel", "--help"], "Checksums": ["--crc", "--crc-order"]}
 
@@ -743,7 +731,7 @@ def counts():
     seen, _ = pieces_of(STREAM)
     kinds = [piece[0] for piece in seen]
     done = subprocess.run(
-        [WATCH, "--count", "--raw"],
+        [WATCH, "--count", "--as", "raw"],
         input=STREAM,
         stdout=subprocess.PIPE,
         stderr=subprocess.PIPE,
@@ -752,27 +740,6 @@ def counts():
     )
     wanted = f"messages {kinds.count('message')}, broken {kinds.count('broken')}, too long {kinds.count('too long')}, bytes {len(STREAM)}\n"
     same(done.stderr.decode(), wanted)
-
-
-def counted_while_read(words, gap):
-    """What is on standard error after three frames, each sent when the one before has been shown and the gap is over."""
-    with subprocess.Popen([WATCH, *words], stdin=subprocess.PIPE, stdout=subprocess.PIPE, stderr=subprocess.PIPE) as watch:
-        for _ in range(3):
-            watch.stdin.write(b"\x02a\0")
-            watch.stdin.flush()
-            same(watch.stdout.readline(), b"message 1 61\n")
-            time.sleep(gap)
-        return watch.communicate(timeout=120)[1].decode().splitlines()
-
-
-@part
-def counts_while_bytes_come():
-    each = [f"messages {n}, broken 0, too long 0, bytes {3 * n}" for n in (1, 2, 3)]
-    same(counted_while_read(["--count-every", "0"], 0), each)
-    same(counted_while_read(["--count-every", "0", "--count"], 0), [*each, each[2]])
-    same(counted_while_read(["--count-every", "4294967295"], 0), [])
-    # How long the start takes decides whether the first frame is counted by itself, but a second passes before the others.
-    same(counted_while_read(["--count-every", "1"], 1.1)[-2:], each[1:])
 
 
 @part
@@ -822,7 +789,7 @@ def interrupt_within_a_frame():
 @part
 def slow_reader():
     some = [b"frame %d" % i for i in range(20_000)]
-    with subprocess.Popen([WATCH, "--raw"], stdin=subprocess.PIPE, stdout=subprocess.PIPE) as watch:
+    with subprocess.Popen([WATCH, "--as", "raw"], stdin=subprocess.PIPE, stdout=subprocess.PIPE) as watch:
         if os.fork() == 0:
             watch.stdin.write(b"".join(encode(message) + b"\0" for message in some))
             watch.stdin.flush()

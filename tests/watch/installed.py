@@ -85,15 +85,52 @@ def the_manuals_are_found():
             assert done.returncode == 0 and program in done.stdout, done
 
 
+TOP = PROGRAMS.parent.parent
+BASH = (PROGRAMS / "completions/cobs_watch.bash").read_text(encoding="ascii")
+ZSH = (PROGRAMS / "completions/_cobs_watch").read_text(encoding="ascii")
+MANUAL = (TOP / "crates/cobs_watch/cobs_watch.1").read_text(encoding="ascii").replace("\\-", "-")
+PAGE = (TOP / "docs/PROGRAMS.md").read_text(encoding="utf-8").partition("\n## cobs_watch\n")[2]
+README = (TOP / "crates/cobs_watch/README.md").read_text(encoding="utf-8")
+
+
 @part
 def completions_have_the_options_of_the_help():
-    bash = (PROGRAMS / "completions/cobs_watch.bash").read_text(encoding="ascii")
     for name, words in (("show", ["show"]), ("send", ["send"])):
-        found = set(re.search(rf"local {name}='([^']*)'", bash)[1].split())
+        found = set(re.search(rf"local {name}='([^']*)'", BASH)[1].split())
         assert found == help_options(words), found ^ help_options(words)
-    zsh = (PROGRAMS / "completions/_cobs_watch").read_text(encoding="ascii")
-    found = set(re.findall(r"(?<![\w-])(--[\w-]+)=?\[", zsh)) | set(re.findall(r",(--[\w-]+)=?\}", zsh))
+    found = set(re.findall(r"(?<![\w-])(--[\w-]+)=?\[", ZSH)) | set(re.findall(r",(--[\w-]+)=?\}", ZSH))
     assert found == help_options([]) | help_options(["send"]), found ^ (help_options([]) | help_options(["send"]))
+
+
+@part
+def the_pages_have_the_options_of_the_help():
+    options = help_options([]) | help_options(["send"])
+    for name, text in (("manual", MANUAL), ("docs/PROGRAMS.md", PAGE)):
+        found = set(re.findall(r"(?<![\w-])--[a-z][a-z-]*", text))
+        assert found == options, (name, found ^ options)
+    found = set(re.findall(r"(?<![\w-])--[a-z][a-z-]*", README))
+    assert found <= options, found - options
+
+
+@part
+def the_values_of_options_are_the_same_everywhere():
+    for option in ("--as", "--only", "--time", "--color", "--crc-order"):
+        words = ["--crc", "crc-8", option, "?"]
+        said = subprocess.run([WATCH, *words], stdin=subprocess.DEVNULL, capture_output=True, text=True, check=False).stderr
+        values = re.search(r"\[possible values: (.*)\]", said)[1].split(", ")
+        completed_so = re.search(rf"{option}\) words='([^']*)'", BASH)[1].split()
+        assert sorted(completed_so) == sorted(values), (option, completed_so)
+        completed_so = re.search(rf"{option}=\W[^\n]*:(?:\(|_sequence compadd - )([\w -]*)", ZSH)[1].split()
+        assert sorted(completed_so) == sorted(values), (option, completed_so)
+        for text in (MANUAL, PAGE):
+            assert all(re.search(rf"(?<![\w-]){value}(?![\w-])", text) for value in values), (option, values)
+
+
+@part
+def the_help_fits_a_screen():
+    for words in (["--help"], ["show", "--help"], ["send", "--help"]):
+        said = subprocess.run([WATCH, *words], capture_output=True, text=True, check=True).stdout
+        assert len(said.splitlines()) <= 60, (words, len(said.splitlines()))
 
 
 def shown(master, is_shown, seconds=60):
@@ -139,6 +176,10 @@ def a_tab_completes_an_option():
             ("cobs_watch show --crc crc-16-mo", b"dbus"),
             ("cobs_watch send --se", b"ntinel"),
             ("cobs_watch -o too", b"-long"),
+            ("cobs_watch -o message,too", b"-long"),
+            ("cobs_watch --as=js", b"on"),
+            ("cobs_watch show --time=sta", b"rt"),
+            ("cobs_watch send --crc=crc-16-mo", b"dbus"),
         ):
             is_so, said = completed(words, first, typed, rest)
             assert is_so, (name, typed, said)

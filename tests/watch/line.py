@@ -87,24 +87,19 @@ def a_fifo(room):
         same(ended(watch), (b"1 " + SHOWN + b"unfinished\n", COUNTED.format(1, 8), 0))
 
 
-UNFINISHED, HUNG_UP = b"unfinished\n", b"hung up\n"
+UNFINISHED = b"unfinished\n"
 
 
 @part
 def a_fifo_whose_writers_come_and_go(room):
+    """Opened for reading and writing, as the manual says, it has no end, and no message is lost."""
     path = room / "line"
     os.mkfifo(path)
-    with start(["--reconnect", "--count", path]) as watch:
-        path.write_bytes(FRAME)
-        same([watch.stdout.readline() for _ in range(2)], [SHOWN, HUNG_UP])
-        for _ in range(2):
-            time.sleep(0.1)
-            # What comes before the first sentinel may be the end of a frame.
-            path.write_bytes(b"\x02" + FRAME[1:] + FRAME)
-            same([watch.stdout.readline() for _ in range(2)], [SHOWN, HUNG_UP])
-        watch.stdout.close()
-        path.write_bytes(b"\0" + FRAME)
-        same((watch.stderr.read().decode(), watch.wait(60)), (COUNTED.format(4, 6 * len(FRAME) + 1), 0))
+    with start(["-n"], stdin=os.open(path, os.O_RDWR)) as watch:
+        for number in (1, 2, 3):
+            path.write_bytes(FRAME)
+            same(watch.stdout.readline(), b"%d " % number + SHOWN)
+        watch.kill()
 
 
 def is_idle(watch):
@@ -112,66 +107,16 @@ def is_idle(watch):
     return Path(f"/proc/{watch.pid}/stat").read_text().rpartition(")")[2].split()[0] == "S"
 
 
-def has_open(watch, path):
-    """Whether the program has the file open that has this path now."""
-    name = os.path.realpath(path)
-    return name in {os.path.realpath(link) for link in Path(f"/proc/{watch.pid}/fd").iterdir()}
-
-
-def write_and_hang_up(watch, path, data):
-    """Writes to a FIFO, and returns once the program has read all of it and has closed it."""
-    path.write_bytes(data)
-    # Until it has opened the FIFO, which the write has waited for, the program isn't idle.
-    while not is_idle(watch) or has_open(watch, path):
-        time.sleep(0.01)
-
-
 @part
-def a_frame_that_a_hang_up_cuts(room):
+def a_frame_that_the_end_cuts(room):
     """At each of its bytes: no message is shown that wasn't sent whole."""
     path = room / "line"
     os.mkfifo(path)
     frame = b"\x03ab\x05cdef\0"
-    json_up = b'{"kind":"hung-up"}\n'
-    for words, unfinished, hung_up in (
-        ([], UNFINISHED, HUNG_UP),
-        (["--text"], UNFINISHED, HUNG_UP),
-        (["--json"], b'{"kind":"unfinished"}\n', json_up),
-        (["--only", "message"], b"", b""),
-        (["--raw"], b"", b""),
-        (["--pcap"], b"", b""),
-    ):
-        with start(["--reconnect", "--log", room / "log", *words, path]) as watch:
-            wanted = b""
-            for cut in range(len(frame)):
-                # The sentinel is the first one after the last hang-up.
-                write_and_hang_up(watch, path, b"\0" + frame[:cut])
-                write_and_hang_up(watch, path, frame[cut:])
-                wanted += (unfinished if cut else b"") + hung_up + hung_up
-            watch.kill()
-            found = watch.stdout.read()
-        if words == ["--pcap"]:
-            same(len(found), 24)
-        else:
-            same(found, wanted)
-        same((room / "log").read_bytes()[-len(found) :] if found else b"", found)
-    # Without the option the run ends there.
     for cut in range(1, len(frame)):
         with start([path]) as watch:
             path.write_bytes(frame[:cut])
             same(ended(watch), (UNFINISHED, "", 0))
-
-
-@part
-def a_line_that_is_not_there_yet(room):
-    path = room / "line"
-    with start(["--reconnect", path]) as watch:
-        said = f"cobs_watch: {path}: No such file or directory (os error 2): waiting for it\n"
-        same(watch.stderr.readline().decode(), said)
-        os.mkfifo(path)
-        path.write_bytes(FRAME)
-        same(watch.stdout.readline(), SHOWN)
-        watch.kill()
 
 
 def await_read(watch):
@@ -289,49 +234,20 @@ def cut_off(watch, path, master, front):
     unplug(path, master)
 
 
-CUT_STYLES = (([], UNFINISHED, HUNG_UP), (["--json"], b'{"kind":"unfinished"}\n', b'{"kind":"hung-up"}\n'), (["--raw"], b"", b""))
+CUT_STYLES = (([], UNFINISHED), (["--as", "json"], b'{"kind":"unfinished"}\n'), (["--as", "raw"], b""))
 
 
 @part
 def a_frame_that_an_unplugged_device_cuts(room):
     """At each of its bytes: what had begun is unfinished, and no message is shown."""
     path = room / "line"
-    for words, unfinished, _ in CUT_STYLES:
+    for words, unfinished in CUT_STYLES:
         for cut in range(len(CUT)):
             watch, master, shown = on_terminal(path, words)
             assert shown, words
             cut_off(watch, path, master, CUT[:cut])
             said = f"cobs_watch: {path}: read failed: Input/output error (os error 5)\n"
             same(ended(watch), (unfinished if cut else b"", said, 1))
-
-
-def await_line(watch, path):
-    """Returns once the program has opened the terminal that has this path now."""
-    while not has_open(watch, path):
-        time.sleep(0.01)
-
-
-@part
-def a_frame_that_a_device_that_comes_back_cuts(room):
-    """At each of its bytes, with --reconnect. The next terminal is left as it comes, and then set by the printed stty."""
-    path = room / "line"
-    for words, unfinished, hung_up in CUT_STYLES:
-        for cut in range(len(CUT)):
-            watch, master, shown = on_terminal(path, ["--reconnect", *words])
-            cut_off(watch, path, master, CUT[:cut])
-            master = plug(path)
-            await_line(watch, path)
-            os.write(master, CUT[cut:-1])
-            time.sleep(0.1)
-            subprocess.run(["stty", "-F", path, "raw", "-echo", "115200"], check=True)
-            os.write(master, b"\0" + FRAME)
-            wanted = (unfinished if cut else b"") + hung_up
-            found = b"".join(watch.stdout.readline() for _ in range(wanted.count(b"\n") + 1))
-            # The frame is as the first one was, but for its number.
-            same(found, wanted + shown.replace(b'"frame":1,', b'"frame":2,'))
-            watch.kill()
-            same(watch.communicate()[0], b"")
-            unplug(path, master)
 
 
 @part
@@ -424,38 +340,6 @@ def an_output_that_would_block(room):
             time.sleep(0.001)
         same((bytes(found), watch.stderr.read(), watch.wait(60)), (SHOWN * 20_000, b"", 0))
     os.close(ours)
-
-
-@part
-def a_log(room):
-    (room / "frames").write_bytes(FRAME * 1000)
-    for times in (1, 2):
-        same(ended(start(["--log", room / "log", room / "frames"])), (SHOWN * 1000, "", 0))
-        same((room / "log").read_bytes(), SHOWN * 1000 * times)
-    _, errors, status = ended(start(["--log", room / "none" / "log", room / "frames"]))
-    assert status == 1 and errors.startswith(f"cobs_watch: {room}/none/log: "), errors
-
-
-@part
-def a_log_that_cannot_be_written(room):
-    (room / "frames").write_bytes(FRAME * 20_000)
-    os.mkfifo(room / "log")
-    for log, reason in (("/dev/full", "No space left on device (os error 28)"), (room / "log", "Broken pipe (os error 32)")):
-        for style in ([], ["--pcap"]):
-            with start([*style, "--log", log, room / "frames"]) as watch:
-                # Whoever reads the FIFO goes away.
-                os.close(os.open(log, os.O_RDONLY))
-                same(ended(watch)[1:], (f"cobs_watch: {log}: write failed: {reason}\n", 1))
-
-
-@part
-def a_log_beside_closed_descriptors(room):
-    (room / "frames").write_bytes(FRAME)
-    for closed, out, status, logged in ((0, SHOWN, 0, SHOWN), (1, b"", 1, b""), (2, SHOWN, 0, SHOWN)):
-        log = room / f"log{closed}"
-        words = ["sh", "-c", f'exec "$@" {closed}>&-', "sh", WATCH, "--count", "--log", log, room / "frames"]
-        done = subprocess.run(words, stdout=subprocess.PIPE, stderr=subprocess.DEVNULL, check=False)
-        same((done.stdout, done.returncode, log.read_bytes()), (out, status, logged))
 
 
 print(f"{len(failed)} failed")

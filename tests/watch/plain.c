@@ -1,4 +1,4 @@
-/* A plain program with the output of `cobs_watch show`: as lines, with --raw, or with --json. It copies runs of bytes at once, and
+/* A plain program with the output of `cobs_watch show`: as lines, with --as raw, or with --as json. It copies runs of bytes at once, and
  * writes digits with a table. The speed of cobs_watch is compared with the speed of this program. Hidden characters that aren't
  * ASCII are written unchanged. */
 #include <stdio.h>
@@ -139,7 +139,7 @@ static void show(enum style style, size_t len, int is_broken, int too_long)
 
 int main(int argc, char **argv)
 {
-    enum style style = argc < 2 ? HEX : strcmp(argv[1], "--raw") == 0 ? RAW : JSON;
+    enum style style = argc < 3 ? HEX : strcmp(argv[2], "raw") == 0 ? RAW : JSON;
     int begun = 0, too_long = 0, zero_due = 0;
     size_t left = 0, len = 0;
     ssize_t count;

@@ -112,9 +112,9 @@ def memory_of(words, block):
     return int(most.split()[1]) / 1024
 
 
-STYLES = (("hexadecimal", []), ("--raw", ["--raw"]), ("--json", ["--json"]))
+STYLES = (("hexadecimal", []), ("--as raw", ["--as", "raw"]), ("--as json", ["--as", "json"]))
 # What plain.c doesn't have.
-OTHERS = ("--text", "--hexdump", "--bytes", "--pcap", "--crc crc-16-modbus", "--crc crc-32", "--time utc --number")
+OTHERS = ("--as text", "--as dump", "--as pcap", "--crc crc-16-modbus", "--crc crc-32", "--time utc --number")
 
 
 def instructions(words, held):
@@ -176,7 +176,7 @@ def main():
     streams = (telemetry, text, brief, dense, noise, long, short, words)
     print_table({message.__name__: measure(message.__name__, stream_of(message)) for message in streams})
     block = stream_of(telemetry)
-    memory = max(memory_of([WATCH, *words], block) for words in ([], ["--hexdump"], ["--json"]))
+    memory = max(memory_of([WATCH, *words], block) for words in ([], ["--as", "dump"], ["--as", "json"]))
     print(f"{len(block) * MIB} bytes, at most {memory:.1f} MiB")
     assert memory <= 16
 
