@@ -37,7 +37,7 @@ GOAL = re.compile(r"^\[wp\] .*Goal typed_(?:cast_)?(?:ref_)?(\w+)(?! : Valid)\b(
 # The functions that take many bytes, whose goals need most of the time.
 LONG = [
     "frame_grows", "frame_goes_on", "after_sentinels", "output_grows", "block_goes_on", "jcobs_fits", "jcobs_encoder_has_room",
-    "jcobs_encoder_append", "jcobs_write_frame", "jcobs_encoder_try_push", "jcobs_encode_terminated",
+    "jcobs_encoder_append", "jcobs_encoder_append_steps", "jcobs_write_frame", "jcobs_encoder_try_push", "jcobs_encode_terminated",
     "jcobs_decoder_take_steps", "jcobs_decoder_take_run", "jcobs_decoder_take_blocks", "jcobs_decoder_take_bytes",
     "jcobs_decode_first", "jcobs_decode_blocks", "jcobs_read_frame_for", "jcobs_frame_kind",
     "jcobs_write_in_place", "jcobs_encode_in_place", "jcobs_decoder_take_in_place", "jcobs_decode_blocks_in_place",

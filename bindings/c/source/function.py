@@ -54,7 +54,7 @@ class Function(Statements):
 
     def with_unused(self, text, params):
         """Uses each parameter that is used only above the threshold, so that compilers don't warn without JCOBS_FAST."""
-        below = re.sub(r"#ifdef JCOBS_FAST\n.*?#endif|/\*.*?\*/", "", text, flags=re.S)
+        below = re.sub(r"#ifdef JCOBS_FAST\n.*?#(?:else|endif)|/\*.*?\*/", "", text, flags=re.S)
         given = [re.search(r"\w+$", it)[0] for it in params]
         for name in [*given, *re.findall(r"^ +[a-z][\w ]*?[ *](\w+) = ", below, re.M)] if below != text else []:
             if not re.search(rf"\b{name}\b(?! = )", below):

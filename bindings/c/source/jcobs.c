@@ -185,10 +185,12 @@ static JCOBS_INLINE size_t jcobs_min(size_t a, size_t b)
     return a < b ? a : b;
 }
 
+#ifdef JCOBS_FAST
 static JCOBS_INLINE size_t jcobs_max(size_t a, size_t b)
 {
     return a > b ? a : b;
 }
+#endif
 
 #ifdef JCOBS_FAST
 /* Returns a - b, or 0 if b is greater than a. */
@@ -298,11 +300,52 @@ static JCOBS_ONCE size_t jcobs_find(const unsigned char *source, size_t source_l
     return source_len;
 }
 
+/* Encodes the next byte of the message. The caller ensures that there is room for the byte. */
+static JCOBS_INLINE void jcobs_encoder_append_byte(jcobs_encoder *encoder, unsigned char *dest, unsigned char byte)
+{
+    /* `code` is the code of the open block before this byte. If the byte joins this block, the block then has
+     * `code` bytes after its code, so `taken` becomes `code`. If the byte ends the block, `taken` becomes 0. */
+    size_t index = encoder->index;
+    size_t code = (size_t)encoder->taken + 1;
+    size_t next = index + code;
+
+    encoder->full = 0;
+    if (byte == 0) {
+        dest[index] = (unsigned char)code;
+        encoder->index = next;
+        code = 0;
+    } else {
+        dest[next] = byte;
+        if (code == JCOBS_FULL_BLOCK_BYTES) {
+            dest[index] = JCOBS_FULL_CODE;
+            encoder->index = next + 1;
+            encoder->full = 1;
+            code = 0;
+        }
+    }
+    encoder->taken = (unsigned char)code;
+}
+
+/* Encodes `bytes` one by one. The caller ensures that there is room for them. */
+static JCOBS_INLINE void jcobs_encoder_append_steps(jcobs_encoder *encoder, unsigned char *dest,
+                                                    const unsigned char *bytes, size_t len)
+{
+    /* The copy stays in registers while bytes are written to the buffer. */
+    jcobs_encoder state = *encoder;
+
+    for (size_t i = 0; i < len; i++) {
+        unsigned char byte = bytes[i];
+        jcobs_encoder_append_byte(&state, dest, byte);
+    }
+    *encoder = state;
+}
+
 /* Encodes `bytes` as the next bytes of the message. The caller ensures that there is room for them. The code of
  * the open block isn't written yet: jcobs_encoder_close_block writes it at the end of the message. */
-static JCOBS_ONCE void jcobs_encoder_append(jcobs_encoder *encoder, unsigned char *dest, const unsigned char *bytes,
-                                            size_t len)
+static JCOBS_INLINE void jcobs_encoder_append(jcobs_encoder *encoder, unsigned char *dest, const unsigned char *bytes,
+                                              size_t len)
 {
+#ifdef JCOBS_FAST
     size_t index = encoder->index;
     size_t next = index + encoder->taken + 1;
     unsigned char full = encoder->full;
@@ -314,7 +357,6 @@ static JCOBS_ONCE void jcobs_encoder_append(jcobs_encoder *encoder, unsigned cha
         /* The open block has room for the bytes before index `end`. */
         size_t end = read + jcobs_min(len - read, JCOBS_FULL_CODE - (next - index));
         size_t copied = 0;
-#ifdef JCOBS_FAST
         if (end - read > JCOBS_SHORT) {
             if (run < JCOBS_SHORT) {
                 end = read + (JCOBS_SHORT - run);
@@ -326,9 +368,6 @@ static JCOBS_ONCE void jcobs_encoder_append(jcobs_encoder *encoder, unsigned cha
                 end = jcobs_min(end, read + 1);
             }
         }
-#else
-    (void)run;
-#endif
         for (size_t i = read; i < end; i++) {
             unsigned char byte = bytes[i];
             dest[next] = byte;
@@ -349,6 +388,9 @@ static JCOBS_ONCE void jcobs_encoder_append(jcobs_encoder *encoder, unsigned cha
     encoder->index = index;
     encoder->taken = (unsigned char)(next - index - 1);
     encoder->full = full;
+#else
+    jcobs_encoder_append_steps(encoder, dest, bytes, len);
+#endif
 }
 
 /* Writes the code of the open block, unless the frame ends with a full block, and returns the frame's length.
@@ -415,17 +457,6 @@ jcobs_answer jcobs_encode(const void *message, size_t message_len, void *frame, 
     return jcobs_too_small_answer();
 }
 
-/* Writes the sentinel after the frame that a call has written to the front of the buffer, if the call succeeded.
- * Returns the result for the frame and the sentinel together. */
-static jcobs_answer jcobs_terminated_answer(jcobs_answer frame, unsigned char *buffer, unsigned char sentinel)
-{
-    if (frame.status != JCOBS_OK) {
-        return frame;
-    }
-    buffer[frame.length] = sentinel;
-    return jcobs_ok_answer(frame.consumed, frame.length + 1);
-}
-
 /* Writes the frame of the message, followed by a zero, to the front of the buffer `frame`, if the frame and the
  * zero fit. Otherwise nothing is written.
  * Proved, by the contract in encode.rt: if the frame of the message and the zero fit, the buffer begins with them,
@@ -440,9 +471,13 @@ jcobs_answer jcobs_encode_terminated(const void *message, size_t message_len, vo
 
     /* The zero needs one byte. */
     size_t last = frame_size - 1;
-    jcobs_answer written = jcobs_encode((const unsigned char *)message, message_len, frame_bytes, last);
+    size_t length = jcobs_try_write_frame((const unsigned char *)message, message_len, frame_bytes, last);
 
-    return jcobs_terminated_answer(written, frame_bytes, 0);
+    if (length != 0) {
+        frame_bytes[length] = 0;
+        return jcobs_ok_answer(message_len, length + 1);
+    }
+    return jcobs_too_small_answer();
 }
 
 /* XORs each byte with `sentinel`. So a frame with the sentinel 0 becomes a frame with this sentinel, and the other
@@ -500,36 +535,13 @@ jcobs_answer jcobs_encode_terminated_with_sentinel(const void *message, size_t m
 
     /* The sentinel needs one byte. */
     size_t last = frame_size - 1;
-    jcobs_answer written = jcobs_encode_with_sentinel((const unsigned char *)message, message_len, frame_bytes, last,
-                                                      sentinel);
+    size_t length = jcobs_try_write_frame_for((const unsigned char *)message, message_len, frame_bytes, last, sentinel);
 
-    return jcobs_terminated_answer(written, frame_bytes, sentinel);
-}
-
-/* Encodes the next byte of the message. The caller ensures that there is room for the byte. */
-static JCOBS_INLINE void jcobs_encoder_append_byte(jcobs_encoder *encoder, unsigned char *dest, unsigned char byte)
-{
-    /* `code` is the code of the open block before this byte. If the byte joins this block, the block then has
-     * `code` bytes after its code, so `taken` becomes `code`. If the byte ends the block, `taken` becomes 0. */
-    size_t index = encoder->index;
-    size_t code = (size_t)encoder->taken + 1;
-    size_t next = index + code;
-
-    encoder->full = 0;
-    if (byte == 0) {
-        dest[index] = (unsigned char)code;
-        encoder->index = next;
-        code = 0;
-    } else {
-        dest[next] = byte;
-        if (code == JCOBS_FULL_BLOCK_BYTES) {
-            dest[index] = JCOBS_FULL_CODE;
-            encoder->index = next + 1;
-            encoder->full = 1;
-            code = 0;
-        }
+    if (length != 0) {
+        frame_bytes[length] = sentinel;
+        return jcobs_ok_answer(message_len, length + 1);
     }
-    encoder->taken = (unsigned char)code;
+    return jcobs_too_small_answer();
 }
 
 /* Encodes a message in the buffer that holds it, and returns the length of the frame in bytes. */
@@ -1225,25 +1237,10 @@ void jcobs_encoder_reset(jcobs_encoder *encoder)
     jcobs_encoder_init(encoder);
 }
 
-/* Encodes the next byte of the message, with `dest` as the buffer. */
-static JCOBS_INLINE int jcobs_encoder_try_feed(jcobs_encoder *encoder, unsigned char *dest, size_t dest_size,
-                                               unsigned char byte)
-{
-    if (!jcobs_encoder_has_room(encoder, &byte, 1, dest_size)) {
-        return 0;
-    }
-    jcobs_encoder_append_byte(encoder, dest, byte);
-    return 1;
-}
-
 /* Encodes the next bytes of the message, with `dest` as the buffer. */
 static JCOBS_INLINE int jcobs_encoder_try_push(jcobs_encoder *encoder, unsigned char *dest, size_t dest_size,
                                                const unsigned char *bytes, size_t len)
 {
-    /* Without this test, a push of one byte takes three times as many instructions. */
-    if (len == 1) {
-        return jcobs_encoder_try_feed(encoder, dest, dest_size, bytes[0]);
-    }
     if (!jcobs_encoder_has_room(encoder, bytes, len, dest_size)) {
         return 0;
     }
@@ -1274,6 +1271,17 @@ jcobs_answer jcobs_encoder_push(jcobs_encoder *encoder, void *buffer, size_t buf
         return jcobs_too_small_answer();
     }
     return jcobs_ok_answer(len, jcobs_encoder_length(encoder));
+}
+
+/* Encodes the next byte of the message, with `dest` as the buffer. */
+static JCOBS_INLINE int jcobs_encoder_try_feed(jcobs_encoder *encoder, unsigned char *dest, size_t dest_size,
+                                               unsigned char byte)
+{
+    if (!jcobs_encoder_has_room(encoder, &byte, 1, dest_size)) {
+        return 0;
+    }
+    jcobs_encoder_append_byte(encoder, dest, byte);
+    return 1;
 }
 
 /* Encodes the next byte of a message. The contract is the same as for a call of jcobs_encoder_push with this byte.
@@ -1326,6 +1334,17 @@ jcobs_answer jcobs_encoder_finish(jcobs_encoder *encoder, void *buffer, size_t b
         return jcobs_ok_answer(0, result.length);
     }
     return jcobs_too_small_answer();
+}
+
+/* Writes the sentinel after the frame that a call has written to the front of the buffer, if the call succeeded.
+ * Returns the result for the frame and the sentinel together. */
+static jcobs_answer jcobs_terminated_answer(jcobs_answer frame, unsigned char *buffer, unsigned char sentinel)
+{
+    if (frame.status != JCOBS_OK) {
+        return frame;
+    }
+    buffer[frame.length] = sentinel;
+    return jcobs_ok_answer(frame.consumed, frame.length + 1);
 }
 
 /* Ends the message, as jcobs_encoder_finish does, and writes a zero after its frame. If the frame and the zero

@@ -59,7 +59,7 @@ VARIABLES = {
 APART = {"max_encoding_overhead"}
 # Functions that are inlined only with JCOBS_FAST (JCOBS_ONCE in top.c): without it, one copy of each is smaller.
 ONE_COPY = {
-    "UnbufferedDecoder::feed_piece_with_sentinel", "UnbufferedDecoder::take_steps", "UnbufferedEncoder::append",
+    "UnbufferedDecoder::feed_piece_with_sentinel", "UnbufferedDecoder::take_steps",
     "decode_first", "encode", "position_or_len", "try_encode",
 }
 # Functions whose calls are replaced by the value that the function returns.

@@ -84,11 +84,16 @@ class Statements(Expressions):
         return Value(f"jcobs_make_end({text}.kind, {text}.count, {self.value(count).text})", PIECE)
 
     def above(self, condition):
-        """Returns whether this condition compares a number with the threshold: "then" or "else", the part above it. Otherwise None."""
+        """Returns whether this condition compares a number with the threshold: "then" or "else", the part above it. Otherwise None.
+
+        If the condition is that the threshold is usize::MAX, the other part of the `if` is the one above it: "always".
+        """
         if self.is_above or condition[0] != "binary":
             return None
         _, sign, left, right = condition
         threshold = ("path", names.THRESHOLD)
+        if condition[1:] == ("==", threshold, ("path", "usize::MAX")):
+            return "always"
         if sign == "&&" or sign == "||":
             found = self.above(left)
             return found if found == ("then" if sign == "&&" else "else") else None
@@ -103,6 +108,8 @@ class Statements(Expressions):
     def threshold(self, above, tree, after, returns):
         """Translates an `if` one of whose parts is only for more bytes than the threshold. This part is compiled only with JCOBS_FAST."""
         _, condition, then, other = tree
+        if above == "always":
+            return self.with_or_without(then, other or after, returns)
         text = self.condition(condition if above == "then" else ("not", condition))
         many, few = (then, other) if above == "then" else (other, then)
         ends = [it and it[-1][0] == "return" or returns and not after for it in (then, other)]
@@ -124,6 +131,16 @@ class Statements(Expressions):
             self.put("}")
             self.lines.append("#endif")
         self.block([*(few or []), *after], returns)
+
+    def with_or_without(self, few, many, returns):
+        """Translates what is compiled without JCOBS_FAST, and what is compiled with it."""
+        self.lines.append("#ifdef JCOBS_FAST")
+        self.is_above = True
+        self.block(many, returns)
+        self.is_above = False
+        self.lines.append("#else")
+        self.block(few[:-1] if few[-1] == ("return", None) else few, returns)
+        self.lines.append("#endif")
 
     def do_comment(self, statement):
         width = 116 - len(INDENT) * self.depth

@@ -191,7 +191,7 @@ class Output:
     def text(self, below=False):
         """Returns the text of all functions, or of what is compiled without JCOBS_FAST."""
         text = "\n".join(self.functions())
-        return re.sub(r"#ifdef JCOBS_FAST\n.*?#endif", "", text, flags=re.S) if below else text
+        return re.sub(r"#ifdef JCOBS_FAST\n.*?#(?:else|endif)", "", text, flags=re.S) if below else text
 
     def where_used(self, name, text):
         """Returns the text of a small function, which is compiled only with JCOBS_FAST if it is used only then."""

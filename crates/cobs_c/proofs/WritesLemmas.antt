@@ -1,5 +1,5 @@
 -- Lemmas on the postcondition of a call that writes a frame (`Writes`), if a byte is written after the frame. The call
--- gets the buffer without its last byte, so there is room for this byte. `Writes-ended` is the main lemma;
+-- gets the buffer without its last byte, so there is room for this byte. `Writes-terminated` is the main lemma;
 -- `terminated` and `behind_terminator` are about the bytes before and after the end of the terminator.
 use Rattle.std.proofs.Common.{◌≡◌, ◌≢◌, inl, inr, ℕ, ◌+◌, ◌≤◌, ◌<◌, List, [], ◌∷◌, ◌++◌, length, take, drop, set, refl, sym, ap, ◌∙◌, subst, arith, length-append, length-drop, length-take-le, take-append-drop}
 use Rattle.std.proofs.lemmas.Bool.{leb-true, leb-false, cases_Bool, cases_eq}
@@ -17,6 +17,11 @@ module _ {size taken : ℕ} {IsWanted : List ℕ → Type 0} {buffer : List ℕ}
   -- if the call doesn't succeed, there are more bytes than the buffer has room for
   pub Writes-failed : Writes size taken IsWanted buffer result buffer' → (result.status ≡ OK → ⊥) → length buffer < size
   Writes-failed w other = grind (arith, leb-true, leb-false, cases_Bool)
+
+-- a call that wrote n bytes, and these are the ones that it wants to write, meets `Writes`
+pub Writes-ok_by : {size taken n : ℕ} {IsWanted : List ℕ → Type 0} {buffer buffer' : List ℕ} → n ≡ size → size ≤ length buffer → IsWanted (take n buffer') → drop n buffer' ≡ drop n buffer
+    → Writes size taken IsWanted buffer (record { status = OK; consumed = taken; length = n }) buffer'
+Writes-ok_by is fits wanted rest = record { fits = λ _. rw is refl; wanted = λ _. wanted; too_small = λ long. absurd (omega arith); rest = rest }
 
 -- `part` is the buffer without its last byte, after a call that changed no byte from index `end` on. If the terminator
 -- s is then written at index `end` of the whole buffer, the bytes after s are as they were before the call.
@@ -65,26 +70,3 @@ module _ {size taken : ℕ} {IsWanted IsEnded : List ℕ → Type 0} {buffer par
         -- the bytes after the terminator are as they were before the call
         rest = behind_terminator buffer part last result.length s len (omega arith) (omega arith) w.rest;
       }
-
-  -- If that call failed, the frame and the terminator don't fit the buffer either. The caller writes the terminator only
-  -- if the call succeeded, and returns `answer`. `written` and `kept` are the clauses of `terminated`.
-  pub Writes-ended : {answer : Answer} {buffer' : List ℕ} (last s : ℕ) → last + 1 ≡ length buffer → length part ≡ last → Writes size taken IsWanted (take last buffer) result part
-      → ((f : List ℕ) → IsWanted f → IsEnded (f ++ s ∷ []))
-      → (result.status ≡ OK → (answer ≡ record { status = OK; consumed = result.consumed; length = result.length + 1 }) × (buffer' ≡ set (part ++ drop last buffer) result.length s))
-      → (result.status ≢ OK → (answer ≡ result) × (buffer' ≡ part ++ drop last buffer))
-      → Writes (size + 1) taken IsEnded buffer answer buffer'
-  Writes-ended last s room len w ended written kept = elim (cases_eq result.status OK) [
-    | inl ok ↦ rw ((written ok).0, (written ok).1) (Writes-terminated last s room len w ok ended)
-    | inr other ↦
-        let long = Writes-failed w other in
-        let is = w.too_small long in
-        let front : length (take last buffer) ≡ last = length-take-le last buffer (omega arith) in
-        let none : result.length ≡ 0 = ap (λ (a : Answer). a.length) is in
-        let same : part ≡ take last buffer = rw none at w.rest in
-        rw ((kept other).0, (kept other).1) (record {
-          fits = λ short. absurd (omega (arith, short, long, front));
-          wanted = λ short. absurd (omega (arith, short, long, front));
-          too_small = λ _. is;
-          rest = ap (λ (l : List ℕ). drop result.length (l ++ drop last buffer)) same ∙ ap (drop result.length) (take-append-drop last buffer);
-        })
-  ]

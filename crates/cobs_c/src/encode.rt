@@ -59,8 +59,13 @@ pub extern "C" fn jcobs_encode_terminated(message: &[u8], frame: &mut [u8]) -> A
     }
     // The zero needs one byte.
     let last = frame.len() - 1;
-    let written = jcobs_encode(message, &mut frame[..last]);
-    terminated(written, frame, 0)
+    match try_encode(message, &mut frame[..last]) {
+        Ok(length) => {
+            frame[length] = 0;
+            done(message.len(), length + 1)
+        }
+        Err(_) => too_small(),
+    }
 }
 
 /// Encodes the message with this sentinel, and writes the frame, followed by the sentinel, to the front of the buffer
@@ -78,8 +83,13 @@ pub extern "C" fn jcobs_encode_terminated_with_sentinel(
     }
     // The sentinel needs one byte.
     let last = frame.len() - 1;
-    let written = jcobs_encode_with_sentinel(message, &mut frame[..last], sentinel);
-    terminated(written, frame, sentinel)
+    match try_encode_with_sentinel(message, &mut frame[..last], sentinel) {
+        Ok(length) => {
+            frame[length] = sentinel;
+            done(message.len(), length + 1)
+        }
+        Err(_) => too_small(),
+    }
 }
 
 /// Encodes a message in place. The message has `message_len` bytes and begins at index `start` of the buffer. The frame

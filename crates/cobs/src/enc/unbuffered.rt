@@ -118,10 +118,6 @@ impl UnbufferedEncoder {
         ensures refused { OnErr result ((dest.new ≡ dest.old) × (self.new ≡ self.old)) }
         ensures empty { bytes.now ≡ [] → (dest.new ≡ dest.old) × (self.new ≡ self.old) }
     {
-        // Without this test, a push of one byte takes three times as many instructions.
-        if bytes.len() == 1 {
-            return self.feed(dest, bytes[0]);
-        }
         if !self.has_room(bytes, dest.len()) {
             return Err(DestBufTooSmallError);
         }

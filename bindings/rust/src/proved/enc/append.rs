@@ -58,15 +58,31 @@ impl UnbufferedEncoder {
         self.taken = code as u8;
     }
 
+    /// Encodes `bytes` one by one. The caller ensures that there is room for them.
+    #[inline(always)]
+    fn append_steps(&mut self, dest: &mut [u8], bytes: &[u8]) {
+        // The copy stays in registers while bytes are written to the buffer.
+        let mut state = *self;
+        for byte in bytes {
+            state.append_byte(dest, *byte);
+        }
+        *self = state;
+    }
+
     /// Encodes `bytes` as the next bytes of the message. The caller ensures that there is room for them. The code of the
     /// open block isn't written yet: [`close`](UnbufferedEncoder::close) writes it at the end of the message.
     ///
     /// A run of more than `SHORT` bytes is searched for its end, and copied as slices. Other bytes are copied one by one.
     /// A block begins at the copy of each zero, and the code of this block is later written over the zero. No branch
     /// tests whether a byte is a zero, because a processor could mispredict that branch. Instead, at each byte the
-    /// function writes a code for the open block, as if this byte were the zero that ends the block.
-    #[inline]
+    /// function writes a code for the open block, as if this byte were the zero that ends the block. If no run is searched,
+    /// [`append_steps`](UnbufferedEncoder::append_steps) does the same in less code.
+    #[inline(always)]
     pub(crate) fn append(&mut self, dest: &mut [u8], bytes: &[u8]) {
+        if SHORT == usize::MAX {
+            self.append_steps(dest, bytes);
+            return;
+        }
         let mut index = self.index;
         let mut next = index + self.taken as usize + 1;
         let mut full = self.full;

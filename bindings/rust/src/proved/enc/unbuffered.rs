@@ -1,7 +1,6 @@
 // Made by bindings/rust/translate.py from `crates/cobs/src/enc/unbuffered.rt`: change that file, and run it again.
 //! An encoder for a message that comes in chunks. The caller passes the encoder's buffer to each call.
 
-use crate::access::Access;
 use crate::proved::error::DestBufTooSmallError;
 
 /// Encodes a message that comes in chunks, straight into a buffer that the caller passes to each call.
@@ -107,10 +106,6 @@ impl UnbufferedEncoder {
     // This function is inlined, so that a loop of short pushes keeps the encoder in registers.
     #[inline(always)]
     pub fn push(&mut self, dest: &mut [u8], bytes: &[u8]) -> Result<(), DestBufTooSmallError> {
-        // Without this test, a push of one byte takes three times as many instructions.
-        if bytes.len() == 1 {
-            return self.feed(dest, bytes.byte(0));
-        }
         if !self.has_room(bytes, dest.len()) {
             return Err(DestBufTooSmallError);
         }

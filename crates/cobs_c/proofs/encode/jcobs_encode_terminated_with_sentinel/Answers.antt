@@ -1,18 +1,25 @@
--- `jcobs_encode_with_sentinel` got the buffer without its last byte, so there is room for the sentinel after the frame
--- (`Writes-ended`).
-use Rattle.std.proofs.Common.{◌≢◌, ◌-◌, ℕ, List, length, length-take-le, refl, sym, ◌∙◌, arith}
+-- `try_encode_with_sentinel` got the buffer without its last byte, so there is room for the sentinel after the frame
+-- (`Writes-terminated`).
+use Rattle.std.proofs.Common.{◌≢◌, ◌-◌, ℕ, List, length, take, length-take-le, refl, sym, ◌∙◌, arith}
 use Rattle.std.proofs.lemmas.Bool.{eqb-false}
-use Rattle.cobs_c.proofs.WritesLemmas.{Writes-ended}
+use Rattle.cobs_c.proofs.WritesLemmas.{Writes-ok_by, Writes-terminated}
+use Rattle.cobs_c.specs.Encode.{EncodesFor}
+use Rattle.cobs_c.specs.declared.answer.Answer.{Answer}
+use Rattle.cobs_c.specs.declared.answer.TheConstants.{OK}
 use Rattle.cobs_c.proofs.encode.jcobs_encode_terminated_with_sentinel.Goals as goal
 
-pub returns : goal.returns
-returns c =
+pub returns-in-Ok : goal.returns-in-Ok
+returns-in-Ok c =
     -- the buffer isn't empty, and without its last byte it has `last` bytes
     let some : length c.args.frame.now ≢ 0 = eqb-false _ 0 (sym c.is_empty.ensures ∙ c.if-is_empty.false) in
     let last : ℕ = length c.args.frame.now - 1 in
     let front = length-take-le last c.args.frame.now (omega arith) in
+    let e = c.in-Ok.ensures in
+    let result : Answer = record { status = OK; consumed = length c.args.message.now; length = c.in-Ok.length } in
+    let written : EncodesFor c.args.sentinel c.args.message.now (take last c.args.frame.now) result c.try_encode_with_sentinel.new.dest =
+    Writes-ok_by e.len (e.fits.0 refl) (e.frame, e.no_sentinel) e.rest in
     record {
       -- a frame f for the sentinel, followed by the sentinel, is a terminated frame by definition
-      encodes = Writes-ended last c.args.sentinel (omega (arith, some)) (omega (arith, front, c.jcobs_encode_with_sentinel-written.auto.frame))
-          c.jcobs_encode_with_sentinel-written.ensures.encodes (λ (f : List ℕ) w. (f, w, refl)) c.terminated.ensures.ok c.terminated.ensures.other;
+      encodes = rw c.done.ensures (Writes-terminated last c.args.sentinel (omega (arith, some)) (omega (arith, front, c.try_encode_with_sentinel.auto.dest)) written refl
+          (λ (f : List ℕ) w. (f, w, refl)));
     }
