@@ -17,8 +17,8 @@ TESTS = TOP / "crates/cobs_vectors/src"
 # Each file of tests, and what its examples are from.
 SOURCES = {
     "doc_encoders": ["lib.rt", "enc.rt", "enc/*.rt"],
-    "doc_decoding": ["error.rt", "find.rt", "lanes.rt", "dec/forms.rt", "dec/in_place.rt", "dec/kind.rt", "dec/state.rt", "dec/whole.rt"],
-    "doc_decoders": ["dec/buffered.rt", "dec/frame_decoder.rt", "dec/heapless.rt", "dec/step.rt", "dec/unbuffered.rt"],
+    "doc_decoding": ["error.rt", "slices.rt", "dec/forms.rt", "dec/in_place.rt", "dec/kind.rt", "dec/state.rt", "dec/whole.rt"],
+    "doc_decoders": ["dec/buffered.rt", "dec/frame_decoder.rt", "dec/heapless.rt", "dec/unbuffered.rt"],
     "doc_streams": ["stream.rt", "framed.rt"],
     "doc_laws": ["laws.rt", "laws/*.rt"],
 }

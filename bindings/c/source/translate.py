@@ -4,7 +4,7 @@
 Each exported function of crates/cobs_c, and each function that it reaches, is translated to a C function with the same
 statements, names and comments, except for the names and comments that names.py replaces. The arguments of an exported function have
 the same names as in jcobs.h, and the comment of the function summarizes its contract. A function that only passes its parameters on
-to another function isn't written. What is only for more bytes than the threshold (SHORT in crates/cobs/src/find.rt) is written between
+to another function isn't written. What is only for more bytes than the threshold (SHORT in crates/cobs/src/slices.rt) is written between
 #ifdef JCOBS_FAST and #endif: the parts of an `if` that compares with the threshold, and the functions that only these parts call.
 kinds.py describes how types are translated. A form that the script doesn't know is an error, which names the function. The text
 before the functions is in top.c, and the text after them is in rest.c. With --check the script compares jcobs.c, and doesn't write it.

@@ -7,9 +7,7 @@ mod heapless;
 mod in_place;
 mod kind;
 mod run;
-mod span;
 mod state;
-mod step;
 mod unbuffered;
 mod whole;
 

@@ -94,10 +94,9 @@ mod block;
 mod dec;
 mod enc;
 mod error;
-mod find;
 mod framed;
-mod lanes;
 pub mod laws;
+mod slices;
 mod stream;
 
 pub use dec::{
@@ -116,7 +115,7 @@ pub use error::{
     DecodeError, DecodeReport, DecodeVecError, DecodingResult, DestBufTooSmallError, PushError,
 };
 pub use framed::{FrameReader, FrameSource, Next, ReadFault, Recorded};
-pub use lanes::xor_bytes;
+pub use slices::xor_bytes;
 pub use stream::{FrameOutcome, decode_stream, encode_frames, encode_frames_room};
 
 /// Returns the greatest overhead, in bytes, that an encoded frame can have if its message has `source_len` bytes. The

@@ -1,7 +1,7 @@
 //! The examples in the documentation of the streaming decoders of `cobs`, as tests.
 //!
 //! Everything below the imports is written by `tests/docs.py --write` from the doc comments of
-//! `buffered.rt`, `frame_decoder.rt`, `heapless.rt`, `step.rt` and `unbuffered.rt` in `crates/cobs/src/dec`. To change
+//! `buffered.rt`, `frame_decoder.rt`, `heapless.rt` and `unbuffered.rt` in `crates/cobs/src/dec`. To change
 //! an example, change its doc comment.
 
 use arrayvec::ArrayVec;

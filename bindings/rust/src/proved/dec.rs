@@ -6,9 +6,7 @@ pub(crate) mod frame_decoder;
 pub(crate) mod in_place;
 pub(crate) mod kind;
 pub(crate) mod run;
-pub(crate) mod span;
 pub(crate) mod state;
-pub(crate) mod step;
 pub(crate) mod unbuffered;
 pub(crate) mod whole;
 

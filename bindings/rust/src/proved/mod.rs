@@ -5,9 +5,8 @@ pub(crate) mod block;
 pub(crate) mod dec;
 pub(crate) mod enc;
 pub(crate) mod error;
-pub(crate) mod find;
 pub(crate) mod framed;
-pub(crate) mod lanes;
+pub(crate) mod slices;
 pub(crate) mod stream;
 
 pub use dec::{
@@ -23,7 +22,7 @@ pub use error::{DecodeError, DecodeReport, DestBufTooSmallError, PushError};
 #[cfg(feature = "std")]
 pub use framed::Recorded;
 pub use framed::{FrameReader, FrameSource, Next, ReadFault};
-pub use lanes::xor_bytes;
+pub use slices::xor_bytes;
 #[cfg(feature = "alloc")]
 pub use stream::{FrameOutcome, decode_stream};
 

@@ -10,10 +10,10 @@ ghost use Rattle.cobs.specs.Stream.{head};
 ghost use Rattle.cobs.specs.declared.error.DecodeError.TheVariants.{EmptyFrame, TargetBufTooSmall};
 
 use crate::dec::decode;
-use crate::dec::span::{kept_len, message_len};
+use crate::dec::run::{kept_len, message_len};
 use crate::dec::unbuffered::START;
 use crate::error::{DecodeError, DecodeVecError};
-use crate::find::position_or_len;
+use crate::slices::position_or_len;
 use std::alloc::Global;
 
 /// Decodes a source that contains no sentinel, and returns the message's length in bytes.

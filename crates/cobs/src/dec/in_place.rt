@@ -11,11 +11,10 @@ ghost use Rattle.cobs.specs.Internal.FeedsQuietly.{FeedsQuietly};
 ghost use Rattle.cobs.specs.Sentinel.{xor_each};
 ghost use Rattle.cobs.specs.declared.error.DecodeError.TheVariants.{TargetBufTooSmall};
 
-use crate::dec::span::{kept_len, message_len};
+use crate::dec::run::{kept_len, message_len};
 use crate::dec::unbuffered::{START, UnbufferedDecoder};
 use crate::error::{DecodeError, DecodeReport};
-use crate::find::{SHORT, position_or_len};
-use crate::lanes::xor_bytes;
+use crate::slices::{SHORT, position_or_len, xor_bytes};
 
 /// Moves `len` bytes of the buffer from index `read` to index `at`, which is at most `read`. Only the `len` bytes from
 /// index `at` on are overwritten.

@@ -3,7 +3,7 @@ ghost use Rattle.std.specs.Prelude.{◌≡◌, ◌↔◌};
 ghost use Rattle.cobs.specs.Grammar.{IsCanonical, IsFrame};
 
 use crate::block::FULL_CODE;
-use crate::find::position_or_len;
+use crate::slices::position_or_len;
 
 /// Says whether some bytes are a frame, and whether the frame is the one that encoders write for its message. The Rust
 /// crate `cobs` has no such type.

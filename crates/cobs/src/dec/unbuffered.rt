@@ -11,7 +11,7 @@ ghost use Rattle.cobs.specs.Table.{FeedsByTable};
 
 use crate::dec::frame_decoder::PieceEnd;
 use crate::error::{DecodeError, DecodeReport, PushError};
-use crate::find::position_or_len;
+use crate::slices::position_or_len;
 
 /// Decodes a stream of frames, each ended by a zero, into a buffer that the caller passes to each call.
 ///

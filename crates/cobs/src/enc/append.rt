@@ -8,7 +8,7 @@ ghost use Rattle.cobs.specs.Internal.Taking.{TakesFront};
 
 use crate::block::{FULL_BLOCK_BYTES, FULL_CODE};
 use crate::enc::UnbufferedEncoder;
-use crate::find::{SHORT, position_or_len};
+use crate::slices::{SHORT, position_or_len};
 
 impl UnbufferedEncoder {
     /// Returns whether the encoder's state is possible in a buffer of `len` bytes, and the frame fits this buffer after

@@ -6,7 +6,7 @@ ghost use Rattle.cobs.specs.Sentinel.{xor_each, IsEncodedFrameFor, IsDelimitedFr
 
 use crate::enc::{encode, try_encode};
 use crate::error::DestBufTooSmallError;
-use crate::lanes::xor_bytes;
+use crate::slices::xor_bytes;
 
 /// Writes the encoded frame of `source` to the front of `dest`, with `sentinel` as the sentinel. Returns the frame's
 /// length in bytes.

@@ -2,10 +2,10 @@
 //! `decode_with_sentinel`, whose caller chooses the sentinel, and the calls that decode into a new vector.
 
 use crate::access::Access;
-use crate::proved::dec::span::{kept_len, message_len};
+use crate::proved::dec::run::{kept_len, message_len};
 use crate::proved::dec::unbuffered::START;
 use crate::proved::error::DecodeError;
-use crate::proved::find::position_or_len;
+use crate::proved::slices::position_or_len;
 
 /// Decodes a source that contains no sentinel, and returns the message's length in bytes.
 fn decode_blocks(source: &[u8], dest: &mut [u8], sentinel: u8) -> Result<usize, DecodeError> {

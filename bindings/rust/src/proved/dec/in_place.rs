@@ -2,11 +2,10 @@
 //! Decoding a frame in the buffer that holds it.
 
 use crate::access::Access;
-use crate::proved::dec::span::{kept_len, message_len};
+use crate::proved::dec::run::{kept_len, message_len};
 use crate::proved::dec::unbuffered::{START, UnbufferedDecoder};
 use crate::proved::error::{DecodeError, DecodeReport};
-use crate::proved::find::{SHORT, position_or_len};
-use crate::proved::lanes::xor_bytes;
+use crate::proved::slices::{SHORT, position_or_len, xor_bytes};
 
 /// Moves `len` bytes of the buffer from index `read` to index `at`, which is at most `read`. Only the `len` bytes from
 /// index `at` on are overwritten.

@@ -3,7 +3,7 @@
 
 use crate::access::Access;
 use crate::proved::block::FULL_CODE;
-use crate::proved::find::position_or_len;
+use crate::proved::slices::position_or_len;
 
 /// Says whether some bytes are a frame, and whether the frame is the one that encoders write for its message.
 ///

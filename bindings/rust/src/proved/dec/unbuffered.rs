@@ -5,7 +5,7 @@
 use crate::access::Access;
 use crate::proved::dec::frame_decoder::PieceEnd;
 use crate::proved::error::{DecodeError, DecodeReport, PushError};
-use crate::proved::find::position_or_len;
+use crate::proved::slices::position_or_len;
 
 /// Decodes a stream of frames, each ended by a zero, into a buffer that the caller passes to each call.
 ///

@@ -4,7 +4,7 @@
 use crate::access::Access;
 use crate::proved::block::{FULL_BLOCK_BYTES, FULL_CODE};
 use crate::proved::enc::UnbufferedEncoder;
-use crate::proved::find::{SHORT, position_or_len};
+use crate::proved::slices::{SHORT, position_or_len};
 
 impl UnbufferedEncoder {
     /// Returns whether the encoder's state is possible in a buffer of `len` bytes, and the frame fits this buffer after

@@ -4,7 +4,7 @@
 use crate::access::Access;
 use crate::proved::enc::try_encode;
 use crate::proved::error::DestBufTooSmallError;
-use crate::proved::lanes::xor_bytes;
+use crate::proved::slices::xor_bytes;
 
 /// Writes the encoded frame of `source` to the front of `dest`, as [`encode_with_sentinel`](crate::encode_with_sentinel) does, if the frame fits
 /// `dest`. Returns the frame's length in bytes.

@@ -2,7 +2,7 @@
 use Rattle.std.proofs.Common.{◌≡◌, ◌∙◌, ◌+◌, ◌<◌, ◌++◌, ◌∷◌, [], ℕ, List, length, take, drop, get_or, set, sym, ap, arith, append_assoc, bit_xor, length-take, take_all}
 use Rattle.std.proofs.lemmas.List.{append-nil, drop_all, drop_more, length-map, map_more, set_at}
 use Rattle.cobs.specs.Bytes.{xor_each}
-use Rattle.cobs.proofs.lanes.xor_slice.Goals as goal
+use Rattle.cobs.proofs.slices.xor_slice.Goals as goal
 
 -- the byte at index i is copied, XORed with s, after the first i bytes
 copied_more : (source dest now : List ℕ) (s i : ℕ) → i < length source → length source ≡ length dest → now ≡ xor_each s (take i source) ++ drop i dest

@@ -3,7 +3,7 @@
 -- are as they were (`rest`).
 use Rattle.std.proofs.Common.{◌≡◌, ◌<◌, ◌-◌, ◌+◌, drop, length, take}
 use Rattle.cobs.proofs.streaming.WalkLemmas.{IsWalked}
-use Rattle.cobs.proofs.dec.span.write_zeros_at_codes.Given as goal
+use Rattle.cobs.proofs.dec.run.write_zeros_at_codes.Given as goal
 
 abbrev pub invariant-by_code : goal.invariant-by_code
 invariant-by_code l = record {

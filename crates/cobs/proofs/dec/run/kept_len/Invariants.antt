@@ -2,7 +2,7 @@
 use Rattle.std.proofs.Common.{◌≡◌, ◌≤◌, ◌-◌, length, take}
 use Rattle.cobs.specs.Piece.{last_part, missing}
 use Rattle.cobs.specs.Sentinel.{xor_each}
-use Rattle.cobs.proofs.dec.span.kept_len.Given as goal
+use Rattle.cobs.proofs.dec.run.kept_len.Given as goal
 
 abbrev pub invariant-by_block : goal.invariant-by_block
 invariant-by_block l = record {

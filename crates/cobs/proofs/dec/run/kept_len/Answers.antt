@@ -9,7 +9,7 @@ use Rattle.cobs.specs.Piece.{kept_output, last_part, missing, output}
 use Rattle.cobs.specs.Sentinel.{xor_each}
 use Rattle.cobs.proofs.decoding.PieceLemmas.{last_part-empty}
 use Rattle.cobs.proofs.decoding.TailLemmas.{ends-next, broken-last, broken-kept, whole-kept}
-use Rattle.cobs.proofs.dec.span.kept_len.Goals as goal
+use Rattle.cobs.proofs.dec.run.kept_len.Goals as goal
 
 -- the XORed byte at index `at` is the byte of the piece
 coded : (bytes : List ℕ) (s at : ℕ) → at < length bytes → bit_xor (get_or bytes at 0) s ≡ get_or (xor_each s bytes) at 0

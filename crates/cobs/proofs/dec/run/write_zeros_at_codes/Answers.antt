@@ -2,7 +2,7 @@
 use Rattle.std.proofs.Common.{◌≡◌, ◌≢◌, ◌<◌, ◌-◌, ℕ, List, length, take, refl, sym, arith, length-set, length-take, take_all}
 use Rattle.std.proofs.lemmas.List.Elements.{All-head, All-tail}
 use Rattle.cobs.proofs.streaming.WalkLemmas.{IsWalked, code-some, walked-on, walked-past, rest-on}
-use Rattle.cobs.proofs.dec.span.write_zeros_at_codes.Goals as goal
+use Rattle.cobs.proofs.dec.run.write_zeros_at_codes.Goals as goal
 
 -- the bytes before the first code stay as they are
 pub by_code-init : goal.by_code-init

@@ -2,7 +2,7 @@
 -- with 0 changes no byte (`xor_each-zero`).
 use Rattle.std.proofs.Common.{arith}
 use Rattle.cobs.proofs.bytes.XoredLemmas.{xor_each-zero}
-use Rattle.cobs.proofs.lanes.copy_xored.Goals as goal
+use Rattle.cobs.proofs.slices.copy_xored.Goals as goal
 
 pub returns-then-sentinel-eq0 : goal.returns-then-sentinel-eq0
 returns-then-sentinel-eq0 c = grind (arith, xor_each-zero)
