@@ -9,7 +9,7 @@ use Rattle.cobs_lines.specs.Lines.{spaced_digits}
 use Rattle.cobs_live.specs.Counted.{counted}
 use Rattle.cobs_live.specs.Dump.{dump}
 use Rattle.cobs_live.specs.Json.{json}
-use Rattle.cobs_live.specs.Capture.{record_head}
+use Rattle.cobs_live.specs.Capture.{packet}
 use Rattle.cobs_live.specs.Seen.{Ended, Seen, heading, seen_piece}
 use Rattle.cobs_live.specs.Timed.{stamped}
 use Rattle.cobs_live.specs.declared.clock.Moment.{Moment}
@@ -45,16 +45,6 @@ text_line color seen = heading color seen ++ (if is_plain seen.bytes then spaced
 abbrev pub dump_lines : (color : Bool) → Seen → List ℕ
 dump_lines color seen = heading color seen ++ codes "\n" ++ dump seen.bytes
 
--- the bytes that are written for a message in a style that shows only messages: the message and a newline (`Raw`), or a
--- record of a capture (`Pcap`). `styled` doesn't use the rows of the other styles.
-abbrev pub alone : Style → ℕ → List ℕ → List ℕ
-alone Hex time bytes = bytes
-alone Text time bytes = bytes
-alone Raw time bytes = bytes ++ codes "\n"
-alone Hexdump time bytes = bytes
-alone Json time bytes = bytes
-alone Pcap time bytes = record_head time (length bytes) ++ bytes
-
 -- the text of a piece in a style that shows only messages: nothing if the piece is no message
 abbrev pub of_message : Kind → List ℕ → List ℕ
 of_message Message text = text
@@ -66,10 +56,10 @@ of_message BadCrc text = []
 abbrev pub styled : Style → (color : Bool) → ℕ → Stamp → Times → Seen → List ℕ
 styled Hex color number stamp times seen = hex_line color seen
 styled Text color number stamp times seen = text_line color seen
-styled Raw color number stamp times seen = of_message seen.kind (alone Raw times.next.millis seen.bytes)
+styled Raw color number stamp times seen = of_message seen.kind (seen.bytes ++ codes "\n")
 styled Hexdump color number stamp times seen = dump_lines color seen
 styled Json color number stamp times seen = json number stamp times seen
-styled Pcap color number stamp times seen = of_message seen.kind (alone Pcap times.next.millis seen.bytes)
+styled Pcap color number stamp times seen = of_message seen.kind (packet times.next.millis seen.bytes)
 
 -- the time before the line of a piece. It is empty for a JSON object, which contains the time itself, and for the
 -- styles that show only messages.

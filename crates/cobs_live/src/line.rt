@@ -1,11 +1,11 @@
 //! Writes a piece in any style.
-ghost use Rattle.std.specs.Prelude.{◌≡◌, OnOk, IfSome, IsSome, ◌↔◌, IsTrue};
+ghost use Rattle.std.specs.Prelude.{◌≡◌, ◌++◌, OnOk, IfSome, IsSome, ◌↔◌, IsTrue, codes};
 ghost use Rattle.std.specs.Io.KnownBytes.{Appends};
 ghost use Rattle.cobs_lines.specs.Lines.{spaced_digits};
 ghost use Rattle.cobs_live.specs.Seen.{color_end, color_of, heading, mark, seen_in, title, titled};
-ghost use Rattle.cobs_live.specs.Shown.{alone, dump_lines, hex_line, is_plain, of_message, spaced, styled, text_line};
+ghost use Rattle.cobs_live.specs.Shown.{dump_lines, hex_line, is_plain, of_message, spaced, styled, text_line};
 
-use crate::capture::write_record_head;
+use crate::capture::write_packet;
 use crate::clock::Times;
 use crate::dump::write_dump;
 use crate::escape::is_hidden;
@@ -32,8 +32,12 @@ pub fn write_line<W: Write>(
         Style::Text => write_text(output, view.color, piece),
         Style::Hexdump => write_dumped(output, view.color, piece),
         Style::Json => write_json(output, number, view.stamp, times, piece),
-        Style::Raw | Style::Pcap => match piece.kind {
-            Kind::Message => write_alone(output, view.style, times.next.millis, piece.bytes),
+        Style::Raw => match piece.kind {
+            Kind::Message => write_raw(output, piece.bytes),
+            Kind::Broken | Kind::TooLong | Kind::BadCrc => Ok(()),
+        },
+        Style::Pcap => match piece.kind {
+            Kind::Message => write_packet(output, times.next.millis, piece.bytes),
             Kind::Broken | Kind::TooLong | Kind::BadCrc => Ok(()),
         },
     }
@@ -155,22 +159,13 @@ fn plain_text(message: &[u8]) -> Option<&str>
     Some(text)
 }
 
-/// Writes a message in a style that shows only messages.
-fn write_alone<W: Write>(output: &mut W, style: Style, time: u64, bytes: &[u8]) -> io::Result<()>
+/// Writes the bytes of a message and a newline.
+fn write_raw<W: Write>(output: &mut W, message: &[u8]) -> io::Result<()>
     ensures written { OnOk result
-        (Appends (W.contents output.old) (W.contents output.new) (alone style time bytes.now)) }
+        (Appends (W.contents output.old) (W.contents output.new) (message.now ++ codes "\n")) }
 {
-    match style {
-        Style::Raw => {
-            output.write_all(bytes)?;
-            output.write_all(b"\n")
-        }
-        Style::Pcap => {
-            write_record_head(output, time, bytes.len())?;
-            output.write_all(bytes)
-        }
-        Style::Hex | Style::Text | Style::Hexdump | Style::Json => output.write_all(bytes),
-    }
+    output.write_all(message)?;
+    output.write_all(b"\n")
 }
 
 /// Writes a line with the title of a piece. Below this line, writes the piece's bytes, sixteen per line.

@@ -1,8 +1,8 @@
--- The four words of a record's header are written one after another: the first three by `Appends-trans`, and the last
+-- The four words of a packet's header are written one after another: the first three by `Appends-trans`, and the last
 -- one, whose write may fail, by `behind`.
 use Rattle.std.proofs.KnownBytes.{Appends-trans}
 use Rattle.cobs_live.proofs.AppendLemmas.{behind}
-use Rattle.cobs_live.proofs.capture.write_record_head.Goals as goal
+use Rattle.cobs_live.proofs.capture.write_packet_head.Goals as goal
 
 pub returns : goal.returns
 returns g c = record {
