@@ -325,29 +325,36 @@ def colors_on_a_terminal():
     same(run(["--color", "auto"], b"\x02a\0\x05b\0"), plain)
 
 
+# The greatest number of bytes that a capture has of a packet: Wireshark reads none with more.
+SNAP_LEN = 262_144
+
+
 @part
 def captures():
-    seen, _ = pieces_of(STREAM)
-    whole = [data for kind, _, data in seen if kind == "message"]
-    begin = time.time()
-    shown = run(["--as", "pcap"], STREAM)
-    end = time.time()
-    same(shown[:24], struct.pack("<IHHiIII", 0xA1B2C3D4, 2, 4, 0, 0, 1 << 24, 147))
-    found, at = [], 24
-    while at < len(shown):
-        seconds, micros, length, size = struct.unpack_from("<IIII", shown, at)
-        assert length == size and begin - 0.001 <= seconds + micros / 1e6 <= end + 0.001, (begin, seconds, micros, end)
-        found.append(shown[at + 16 : at + 16 + length])
-        at += 16 + length
-    assert found == whole
+    # Messages at the limit and above it, with others after them.
+    long = b"".join(encode(bytes([65 + n % 9]) * (SNAP_LEN + n)) + b"\0" + encode(b"next") + b"\0" for n in (-1, 0, 1, 90_000))
+    for words, stream in ([], STREAM), (["--length", "400000"], long):
+        seen, _ = pieces_of(stream, 400_000 if words else LIMIT)
+        whole = [data for kind, _, data in seen if kind == "message"]
+        begin = time.time()
+        shown = run([*words, "--as", "pcap"], stream)
+        end = time.time()
+        same(shown[:24], struct.pack("<IHHiIII", 0xA1B2C3D4, 2, 4, 0, 0, SNAP_LEN, 147))
+        found, at = [], 24
+        while at < len(shown):
+            seconds, micros, captured, sent = struct.unpack_from("<IIII", shown, at)
+            assert begin - 0.001 <= seconds + micros / 1e6 <= end + 0.001, (begin, seconds, micros, end)
+            found.append((sent, shown[at + 16 : at + 16 + captured]))
+            at += 16 + captured
+        assert found == [(len(data), data[:SNAP_LEN]) for data in whole]
+        if shutil.which("tshark"):
+            with tempfile.NamedTemporaryFile(suffix=".pcap") as held:
+                held.write(shown)
+                held.flush()
+                fields = ["-T", "fields", "-e", "frame.len", "-e", "frame.cap_len"]
+                read = subprocess.run(["tshark", "-r", held.name, *fields], capture_output=True, check=True).stdout
+            same([int(text) for text in read.split()], [n for data in whole for n in (len(data), min(len(data), SNAP_LEN))])
     same(run(["--as", "pcap"], b""), shown[:24])
-    if shutil.which("tshark"):
-        with tempfile.NamedTemporaryFile(suffix=".pcap") as held:
-            held.write(shown)
-            held.flush()
-            words = ["tshark", "-r", held.name, "-T", "fields", "-e", "frame.len"]
-            read = subprocess.run(words, stdout=subprocess.PIPE, stderr=subprocess.DEVNULL, check=True).stdout
-        same([int(text) for text in read.split()], [len(message) for message in whole])
 
 
 @part

@@ -4,20 +4,14 @@
 pub(crate) fn of(name: &str) -> &'static str {
     match name {
         "as" => {
-            "How pieces are shown: hex, text (if it is UTF-8 without\nhidden characters), raw (messages and newlines), json (an\nobject on a line), dump (as hexdump -C) or pcap (messages\nfor Wireshark, with UTC times)"
+            "How pieces are shown: hex, text (UTF-8 without hidden\ncharacters), raw (messages and newlines), json, dump\n(as hexdump -C) or pcap (for Wireshark)"
         }
-        "number" => {
-            "Begin each line with its piece's number; pieces that\naren't shown count too; JSON always has the number"
-        }
-        "partial" => {
-            "Show the decoded bytes of broken and too long pieces,\nafter the word partial; in JSON, only as hex"
-        }
+        "number" => "Begin each line with its piece's number",
+        "partial" => "Show the decoded bytes of broken and too long pieces",
         "time" => {
             "Begin each line with a time: start (since the start),\nlast (since the last piece), or utc or local (a date)"
         }
-        "color" => {
-            "Colour each kind of piece: always, never or auto (only\non a terminal, without NO_COLOR)"
-        }
+        "color" => "Colour the kinds: always, never or auto",
         _ => of_pieces(name),
     }
 }
@@ -28,18 +22,13 @@ fn of_pieces(name: &str) -> &'static str {
         "only" => {
             "Show pieces of this kind, or of these with commas between\nthem: message, broken, too-long, bad-crc, unfinished"
         }
-        "crc" => {
-            "The checksum at the end of each message, by its name\nor parameters: see below"
-        }
-        "crc-order" => {
-            "The first byte of the checksum: big (the highest) or\nlittle (the lowest); little by default if reflected"
-        }
+        "crc" => "The checksum at the end of each message: see below",
+        "crc-order" => "Its first byte: big (highest) or little (lowest)",
         "length" => "The longest message, in bytes",
         "sentinel" => "The byte that ends each frame",
-        "skip-first" => "Skip all bytes up to and including the first\nsentinel",
-        "count" =>
-            "Count pieces and bytes on standard error at the\nend, but not if a signal ends the program",
-        "path" => "The device, FIFO or file that is shown; - or no\nPATH is standard input",
+        "skip-first" => "Skip all bytes up to and including the first sentinel",
+        "count" => "Write counts to standard error at the end of the input",
+        "path" => "The device, FIFO or file; - or no PATH is standard input",
         "hex" => "Each line has the hexadecimal digits of a message",
         _ => "",
     }
