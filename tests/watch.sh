@@ -1,6 +1,6 @@
 #!/bin/sh
 # Tests cobs_watch as people run it: over pseudo-terminals, pipes and files, with each option, and with much data.
-# WATCH_MIB is the number of MiB with which the speed is measured. WATCH is the path of a built program to test.
+# WATCH is the path of a built program to test.
 set -eu
 cd "$(dirname "$0")/.."
 rt=$(command -v rt || echo /opt/rattle/bin/rt)
@@ -26,4 +26,4 @@ done
 python3 tests/watch/installed.py "$watch"
 
 cc -O2 -Wall -Wextra -Werror -o "$room/plain" tests/watch/plain.c
-python3 tests/watch/speed.py "$watch" "$room/plain" "${WATCH_MIB:-32}"
+python3 tests/watch/speed.py "$watch" "$room/plain"

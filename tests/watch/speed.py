@@ -1,14 +1,12 @@
 #!/usr/bin/env python3
-"""Measures the speed and memory of cobs_watch with much data, and compares the speed with that of a plain program in C.
+"""Counts the instructions of cobs_watch, and of a plain program in C, for a mebibyte of each stream, and measures the memory.
 
-    speed.py WATCH PLAIN [MIB [RUNS]]
+    speed.py WATCH PLAIN
 
-PLAIN is the built plain.c, which has only some of the styles. MIB of each of eight streams are read (default 128), and the
-fastest of RUNS runs counts (default 3). At the end the script prints the table of crates/cobs_watch/README.md, with the
-instructions that valgrind counts.
+PLAIN is the built plain.c, which has only some of the styles. The script prints the tables of crates/cobs_watch/README.md.
+Valgrind counts the instructions; without it, only the output is compared, and the memory measured.
 """
 
-import os
 import random
 import re
 import shutil
@@ -17,8 +15,7 @@ import sys
 import tempfile
 
 WATCH, PLAIN = sys.argv[1:3]
-MIB = int(sys.argv[3]) if len(sys.argv) > 3 else 128
-RUNS = int(sys.argv[4]) if len(sys.argv) > 4 else 3
+MIB = 32  # How much is read when the memory is measured.
 
 
 def frame_of(message):
@@ -89,16 +86,6 @@ def stream_of(message):
     return bytes(out)
 
 
-def timed(words, held):
-    """The seconds of processor time of a run."""
-    held.seek(0)
-    with subprocess.Popen(words, stdin=held, stdout=subprocess.DEVNULL) as program:
-        _, status, used = os.wait4(program.pid, 0)
-        program.returncode = status
-    assert status == 0, status
-    return used.ru_utime + used.ru_stime
-
-
 def memory_of(words, block):
     """The most memory in MiB that a run has had, once all of its input is in the pipe."""
     with subprocess.Popen(words, stdin=subprocess.PIPE, stdout=subprocess.DEVNULL) as program:
@@ -112,9 +99,9 @@ def memory_of(words, block):
     return int(most.split()[1]) / 1024
 
 
-STYLES = (("hexadecimal", []), ("--as raw", ["--as", "raw"]), ("--as json", ["--as", "json"]))
+STYLES = (("hexadecimal", []), ("`--as raw`", ["--as", "raw"]), ("`--as json`", ["--as", "json"]))
 # What plain.c doesn't have.
-OTHERS = ("--as text", "--as dump", "--as pcap", "--crc crc-16-modbus", "--crc crc-32", "--time utc --number")
+OTHERS = ("--as text", "--as dump", "--as pcap", "--crc crc-16-modbus", "--time utc --number")
 
 
 def instructions(words, held):
@@ -136,46 +123,43 @@ def same_output(held, words):
     return said[0] == said[1]
 
 
-def measure(name, block):
-    """Prints how fast both programs are in each style, whose runs take turns, and returns the column of the table."""
+def counted(block):
+    """The column of the table for a stream: the instructions per byte of both programs in each style, which write the same."""
+    column = []
     with tempfile.TemporaryFile() as held:
         held.write(block)
         held.flush()
-        for style, words in STYLES:
-            assert same_output(held, words), (name, style)
-        column = {}
-        if shutil.which("valgrind"):
-            counts = [instructions([program], held) / len(block) for program in (WATCH, PLAIN)]
-            column["instructions per byte, hexadecimal"] = "{:.0f}, {:.0f}".format(*counts)
-        for _ in range(MIB - 1):
-            held.write(block)
-        held.flush()
-        size = len(block) * MIB / 1e6
-        for style, words in STYLES:
-            runs = [[timed([program, *words], held) for program in (WATCH, PLAIN)] for _ in range(RUNS)]
-            watch, plain = (size / min(times) for times in zip(*runs))
-            column[style] = f"{watch:.0f}, {plain:.0f}"
-            print(
-                f"{name}, {style}: cobs_watch {watch:.0f} MB/s, plain C {plain:.0f} MB/s of processor time", flush=True
-            )
-        for words in OTHERS:
-            best = min(timed([WATCH, *words.split()], held) for _ in range(2))
-            print(f"{name}, {words}: cobs_watch {size / best:.0f} MB/s", flush=True)
+        for _, words in STYLES:
+            assert same_output(held, words), words
+            if shutil.which("valgrind"):
+                counts = [instructions([program, *words], held) / len(block) for program in (WATCH, PLAIN)]
+                column.append("{:.0f}, {:.0f}".format(*counts))
     return column
 
 
-def print_table(columns):
-    """Prints the table: the speed of both programs, or their instructions, by style and stream."""
-    print("| MB/s of `cobs_watch`, and of C |", " | ".join(columns), "|\n|---|" + "--:|" * len(columns))
-    for row in sorted(next(iter(columns.values())), key=lambda it: it.startswith("instructions")):
-        print(f"| {row} |", " | ".join(column[row] for column in columns.values()), "|")
+def print_counts(streams):
+    """Prints the instructions per byte, by style and stream, and those of other options for the first stream."""
+    columns = [counted(block) for block in streams.values()]
+    if not shutil.which("valgrind"):
+        print("skipped: the instructions: no valgrind (Debian package valgrind)")
+        return
+    print("| instructions per byte of `cobs_watch`, and of C |", " | ".join(streams), "|\n|---|" + "--:|" * len(streams))
+    for (style, _), *row in zip(STYLES, *columns):
+        print(f"| {style} |", " | ".join(row), "|")
+    block = next(iter(streams.values()))
+    with tempfile.TemporaryFile() as held:
+        held.write(block)
+        held.flush()
+        for words in OTHERS:
+            print(f"| `{words}` | {instructions([WATCH, *words.split()], held) / len(block):.0f} |")
 
 
 def main():
-    """Measures streams of each kind, and the memory over the first one."""
-    streams = (telemetry, text, brief, dense, noise, long, short, words)
-    print_table({message.__name__: measure(message.__name__, stream_of(message)) for message in streams})
-    block = stream_of(telemetry)
+    """Counts for streams of each kind, and measures the memory over the first one."""
+    kinds = (telemetry, text, brief, dense, noise, long, short, words)
+    streams = {kind.__name__: stream_of(kind) for kind in kinds}
+    print_counts(streams)
+    block = streams["telemetry"]
     memory = max(memory_of([WATCH, *words], block) for words in ([], ["--as", "dump"], ["--as", "json"]))
     print(f"{len(block) * MIB} bytes, at most {memory:.1f} MiB")
     assert memory <= 16
