@@ -255,28 +255,24 @@ static PyObject *decoder_next(PyObject *object)
     return outcome;
 }
 
-/* alone(what, function, *arguments): calls the function, unless `alone` is calling one for the same use, "reader" or
- * "writer", in another thread or in the code that a signal handler has interrupted. */
-static PyObject *decoder_alone(PyObject *object, PyObject *args)
+/* alone(what, function, *arguments): calls the function with up to three arguments, unless `alone` is calling one for
+ * the same use, "reader" or "writer", in another thread or in the code that a signal handler has interrupted. */
+static PyObject *decoder_alone(PyObject *object, PyObject *const *args, Py_ssize_t count)
 {
     Decoder *self = (Decoder *)object;
-    Py_ssize_t count = PyTuple_Size(args);
-    PyObject *arguments, *result;
+    PyObject *result;
     int *used, writes;
 
-    if (count < 2)
-        return PyErr_Format(PyExc_TypeError, "alone() takes a use and a function");
-    writes = PyUnicode_CompareWithASCIIString(PyTuple_GetItem(args, 0), "writer") == 0;
+    if (count < 2 || count > 5)
+        return PyErr_Format(PyExc_TypeError, "alone() takes a use, a function and up to three arguments");
+    writes = PyUnicode_CompareWithASCIIString(args[0], "writer") == 0;
     used = writes ? &self->writing : &self->reading;
     if (*used || (!writes && self->buffer.busy))
-        return PyErr_Format(PyExc_RuntimeError, "the %S is in use by another call", PyTuple_GetItem(args, 0));
-    arguments = PyTuple_GetSlice(args, 2, count);
-    if (arguments == NULL)
-        return NULL;
+        return PyErr_Format(PyExc_RuntimeError, "the %S is in use by another call", args[0]);
     *used = 1;
-    result = PyObject_Call(PyTuple_GetItem(args, 1), arguments, NULL);
+    result = PyObject_CallFunctionObjArgs(args[1], count > 2 ? args[2] : NULL, count > 3 ? args[3] : NULL,
+                                          count > 4 ? args[4] : NULL, NULL);
     *used = 0;
-    Py_DECREF(arguments);
     return result;
 }
 
@@ -334,7 +330,7 @@ static PyObject *decoder_pending(PyObject *object, void *closure)
 }
 
 static PyMethodDef decoder_methods[] = {
-    {"alone", decoder_alone, METH_VARARGS, NULL},
+    {"alone", FAST(decoder_alone), METH_FASTCALL, NULL},
     {"discard", decoder_discard, METH_NOARGS, NULL},
     {"feed", decoder_feed, METH_O, NULL},
     {"push", decoder_push, METH_O, NULL},

@@ -18,8 +18,9 @@ bytes-like, and BufferError for an object whose bytes aren't contiguous. But `fr
 and `Message`, `Broken` and `TooLong` raise TypeError for every object except bytes.
 
 `sentinel` is an integer from 0 to 255; any other integer raises ValueError. `max_length` is the length of the longest
-message in bytes, and `length` that of a message: a negative number raises ValueError, and a number above `sys.maxsize` raises OverflowError. An object that isn't
-an integer raises TypeError. If there isn't enough memory, a call raises MemoryError.
+message in bytes, and `length` that of a message: a negative number raises ValueError, and a number above `sys.maxsize`
+raises OverflowError. An object that isn't an integer raises TypeError. If there isn't enough memory, a call raises
+MemoryError.
 """
 
 __version__ = "1.0.0"  # the modules below compare this version with the version of the extension

@@ -4,10 +4,10 @@ from __future__ import annotations
 
 import importlib
 import time
-from typing import TYPE_CHECKING, Any, AsyncIterator, Optional, Protocol, Union
+from typing import TYPE_CHECKING, Any, AsyncIterator, Iterator, Optional, Protocol, Union
 
 from jcobs._files import CHUNK
-from jcobs._readers import LONGEST_DISCARD, Deadline, Stream, reply_of
+from jcobs._readers import LONGEST_DISCARD, Stream, reply_of, waits
 from jcobs._streams import Message, Outcome
 
 if TYPE_CHECKING:
@@ -158,17 +158,16 @@ class AsyncFrameReader(Stream):
         """
         return self._decoder.push(await self._receive())
 
-    async def _take_within(self, deadline: Deadline) -> Optional[int]:
-        """Reads once, like `_take`, but returns None if no bytes arrive before the deadline."""
-        if deadline.passed:
-            return None
-        timeout = deadline.left()
-        if timeout is None:
-            return await self._take()
-        if self._name == "read":
-            return await self._take_by_a_task(timeout)
-        with self._library().move_on_after(max(timeout, SHORTEST)):
-            return await self._take()
+    async def _take_within(self, lefts: Iterator[Optional[float]]) -> Optional[int]:
+        """Reads once, like `_take`, but returns None if no bytes arrive in time."""
+        for left in lefts:
+            if left is None:
+                return await self._take()
+            if self._name == "read":
+                return await self._take_by_a_task(left)
+            with self._library().move_on_after(max(left, SHORTEST)):
+                return await self._take()
+            break
         return None
 
     async def _take_by_a_task(self, timeout: float) -> Optional[int]:
@@ -193,13 +192,13 @@ class AsyncFrameReader(Stream):
         Raises EOFError at the end of the stream, ValueError if `timeout` is negative, and TypeError if `timeout` isn't
         a number.
         """
-        deadline = Deadline(timeout)
+        lefts = waits(timeout)
         with self._reading:
-            return await self._next(deadline)
+            return await self._next(lefts)
 
-    async def _next(self, deadline: Deadline) -> Optional[Outcome]:
+    async def _next(self, lefts: Iterator[Optional[float]]) -> Optional[Outcome]:
         while (outcome := self._decoder.take()) is None:
-            count = await self._take_within(deadline)
+            count = await self._take_within(lefts)
             if not count:
                 self._nothing(count)
                 return None
@@ -231,7 +230,7 @@ class AsyncFrameReader(Stream):
     async def _discard(self) -> None:
         self._decoder.discard()
         end = time.monotonic() + LONGEST_DISCARD
-        while await self._take_within(Deadline(0)) and time.monotonic() < end:
+        while await self._take_within(waits(0)) and time.monotonic() < end:
             self._decoder.discard()
         self._decoder.discard()
 
@@ -251,10 +250,10 @@ class AsyncFrameReader(Stream):
             send = getattr(self._writer, "send_all" if hasattr(self._writer, "send_all") else "send")
             with self._sending:
                 await send(self._out(message))
-                self._cut = 0
+                self._lead = b""
             return
         self._writer.write(self._out(message))
-        self._cut = 0  # the writer has the whole frame, and sends it even if this call is cancelled
+        self._lead = b""  # the writer has the whole frame, and sends it even if this call is cancelled
         await self._writer.drain()
 
     async def request(self, message: ReadableBuffer, timeout: Optional[float], *, discard: bool = True) -> bytes:
@@ -271,7 +270,7 @@ class AsyncFrameReader(Stream):
         If several tasks call `request`, each one waits until the requests before it have ended, in their order. The
         time of this wait isn't part of `timeout`.
         """
-        Deadline(timeout)
+        lefts = waits(timeout)
         if self._requests is None:
             self._requests = self._library().Lock()
         async with self._requests:
@@ -279,7 +278,7 @@ class AsyncFrameReader(Stream):
                 if discard:
                     await self._discard()
                 await self.write(message)
-                return reply_of(await self._next(Deadline(timeout)))
+                return reply_of(await self._next(lefts))
 
 
 class AsyncMessages:

@@ -3,6 +3,7 @@
 from __future__ import annotations
 
 import errno
+import functools
 import io
 import os
 import select
@@ -21,6 +22,8 @@ Receive = Callable[[Callable[[int], Optional[bytes]], int], Optional[int]]
 # until some arrive. The second parameter is the timeout in seconds; None means the file's own timeout. The function
 # returns the number of bytes, 0 at the end of the stream, or None if no bytes have arrived before the timeout.
 Read = Callable[[Any, Optional[float], Receive], Optional[int]]
+# A function that writes all of the data. If it raises an exception, a part of the data may have been written.
+Write = Callable[[bytes], object]
 
 
 class Readable(Protocol):
@@ -63,11 +66,11 @@ def takes(port: Any) -> bool:
 
 def is_ready(file: Any, timeout: float) -> bool:
     """Waits until a file or socket has bytes or is at its end, and returns whether that happened in time."""
-    if not hasattr(file, "fileno") or isinstance(file, io.BufferedRWPair):
-        kind = type(file).__name__
-        raise TypeError(f"a timeout needs a serial port, a socket or a file: {kind} has no fileno")
     descriptor = descriptor_of(file)
     if descriptor is None:
+        if not hasattr(file, "fileno") or isinstance(file, io.BufferedRWPair):
+            kind = type(file).__name__
+            raise TypeError(f"a timeout needs a serial port, a socket or a file: {kind} has no fileno")
         return True  # the file is in memory
     if hasattr(file, "pending") and file.pending():
         return True  # a socket of pyOpenSSL has decrypted some bytes already
@@ -204,22 +207,49 @@ def read_of(file: Any) -> Read:
     return read_file
 
 
-def send(file: Any, data: bytes) -> None:
-    """Writes all of the data to a file. If an exception is raised, a part of the data may have been written."""
-    if hasattr(file, "sendall"):
-        file.sendall(data)
-        return
-    raw, port = isinstance(file, io.RawIOBase), hasattr(file, "in_waiting")
-    waits = not port or getattr(file, "write_timeout", None) != 0
+def write_by(write: Callable[[bytes], Optional[int]], data: bytes) -> None:
+    """Calls a function that writes a part of its argument, until all of the data is written."""
     while data:
-        # A write of pyserial without a wait tries again and again, as long as the port takes no byte.
-        count = file.write(data) if waits or takes(file) else None
-        data = data[count:] if count is not None or raw or not waits else b""
-        if data and port and waits:
-            raise OSError(errno.ECANCELED, f"the write was cancelled, with {len(data)} bytes of the frame left")
-        if data and not count:
+        count = write(data)
+        if not count:
             raise BlockingIOError(errno.EAGAIN, f"the file took no more, with {len(data)} bytes of the frame left")
-    # A port isn't flushed: it has no buffer of its own, and its flush waits until the bytes are on the wire, however
-    # long that takes.
-    if not raw and not port and hasattr(file, "flush"):
+        data = data[count:]
+
+
+def write_raw(file: Any, data: bytes) -> None:
+    """Writes all of the data to a raw file."""
+    write_by(file.write, data)
+
+
+def write_port(port: Any, data: bytes) -> None:
+    """Writes all of the data to a serial port.
+
+    The port isn't flushed: it has no buffer of its own, and its flush waits until the bytes are on the wire, however
+    long that takes.
+    """
+    if getattr(port, "write_timeout", None) == 0:
+        # A write of pyserial without a wait tries again and again, as long as the port takes no byte.
+        write_by(lambda left: port.write(left) if takes(port) else None, data)
+        return
+    count = port.write(data)
+    if count is not None and count < len(data):
+        raise OSError(errno.ECANCELED, f"the write was cancelled, with {len(data) - count} bytes of the frame left")
+
+
+def write_file(file: Any, data: bytes) -> None:
+    """Writes all of the data to a file that has a buffer, or to another object. If `write` returns None, it wrote all."""
+    count = file.write(data)
+    if count is not None and count < len(data):
+        write_by(file.write, data[count:])
+    if hasattr(file, "flush"):
         file.flush()
+
+
+def write_of(file: Any) -> Write:
+    """Returns the function that writes to this kind of file."""
+    if hasattr(file, "sendall"):
+        send: Write = file.sendall
+        return send
+    if hasattr(file, "in_waiting"):
+        return functools.partial(write_port, file)
+    return functools.partial(write_raw if isinstance(file, io.RawIOBase) else write_file, file)

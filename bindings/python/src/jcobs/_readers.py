@@ -3,13 +3,14 @@
 from __future__ import annotations
 
 import io
+import itertools
 import operator
 import threading
 import time
 from typing import TYPE_CHECKING, Any, Iterator, Optional, Union
 
 from jcobs._backend import core
-from jcobs._files import Readable, Receivable, read_of, send
+from jcobs._files import Readable, Receivable, read_of, write_of
 from jcobs._streams import CLASSES, Broken, Coder, DecodeError, Message, Outcome, encode
 
 if TYPE_CHECKING:
@@ -24,19 +25,15 @@ LONGEST = 2_000_000.0
 LONGEST_DISCARD = 1.0
 
 
-def closing(count: int, sentinel: int) -> bytes:
+def closing(sentinel: int) -> bytes:
     """Returns bytes that end a frame that was cut off, so that every decoder reports this frame as damaged.
 
     A single sentinel isn't enough: if a frame was cut off between two of its blocks, the blocks that were sent are the
-    frame of a shorter message. If k bytes of a block are missing (k is less than `count`), the first k of the returned
-    bytes complete that block. The next byte is the code 255. Fewer than 254 bytes follow it, so the frame is broken.
-
-    At most 254 bytes of a block can be missing, so `count` is at most 255. If `count` is 255, the first returned byte
-    is 1, the code of a block that has only its code. It can't be 255: if the frame was cut off between two blocks, the
-    255 and the 254 bytes after it would be a full block, and the frame would not be broken.
+    frame of a shorter message. At most 254 bytes of a block can be missing. The first of the returned bytes complete
+    that block. The next byte is the code 255. Fewer than 254 bytes follow it, so the frame is broken. If no byte of a
+    block is missing, the first byte is a block that has only its code, and the next one is the code 255.
     """
-    spoiling = b"\xff" * count if count < 255 else b"\x01" + b"\xff" * 254
-    return bytes(byte ^ sentinel for byte in spoiling + b"\0")
+    return bytes(byte ^ sentinel for byte in b"\x01" + b"\xff" * 254 + b"\0")
 
 
 def reply_of(outcome: Optional[Outcome]) -> bytes:
@@ -48,33 +45,33 @@ def reply_of(outcome: Optional[Outcome]) -> bytes:
     return outcome.data
 
 
-class Deadline:
-    """The moment at which a call stops waiting. If the call waits without a limit, there is no such moment."""
+def until(timeout: float) -> Iterator[float]:
+    """Yields how many seconds each wait may take, as long as any are left. The time begins with the first wait."""
+    end = time.monotonic() + timeout
+    yield timeout if timeout < LONGEST else LONGEST
+    while (left := end - time.monotonic()) > 0:
+        yield left if left < LONGEST else LONGEST
 
-    passed = False
 
-    def __init__(self, timeout: Optional[float]) -> None:
-        if isinstance(timeout, (str, bytes)) or not (timeout is None or hasattr(timeout, "__float__")):
-            raise TypeError(f"timeout must be a number of seconds or None, not {type(timeout).__name__}")
-        if timeout is not None and not timeout >= 0:
-            raise ValueError("timeout must not be negative")
-        self._end = None if timeout is None else time.monotonic() + float(timeout)
-
-    def left(self) -> Optional[float]:
-        """Returns the seconds that are left. After a wait of 0 seconds, the deadline has passed."""
-        left = None if self._end is None else min(max(0.0, self._end - time.monotonic()), LONGEST)
-        self.passed = left == 0
-        return left
+def waits(timeout: Optional[float]) -> Iterator[Optional[float]]:
+    """Returns an iterator over how many seconds each wait of a call may take. None means the file's own timeout."""
+    if timeout is None:
+        return itertools.repeat(None)
+    if not hasattr(timeout, "__float__"):
+        raise TypeError(f"timeout must be a number of seconds or None, not {type(timeout).__name__}")
+    if not timeout >= 0:
+        raise ValueError("timeout must not be negative")
+    return until(float(timeout))
 
 
 class Stream(Coder):
-    """The state of both directions of a stream: a decoder, and what was sent of the last frame."""
+    """The state of both directions of a stream: a decoder, and what goes before the next frame."""
 
     def __init__(self, max_length: int, sentinel: int, sync: bool) -> None:
         self._decoder = core.Decoder(max_length, sentinel, CLASSES)
         self._sentinel = operator.index(sentinel)
-        # If a frame may have been cut, how many bytes to send before the sentinel that ends it; otherwise 0.
-        self._cut = 255 if sync else 0
+        self._closing = closing(self._sentinel)
+        self._lead = self._closing if sync else b""
 
     @property
     def unfinished(self) -> bool:
@@ -93,14 +90,11 @@ class Stream(Coder):
     def _out(self, message: ReadableBuffer) -> bytes:
         """Returns the bytes to send for a message.
 
-        Until the caller sets `_cut` to 0, the reader assumes that only a part of these bytes was sent.
+        Until the caller empties `_lead`, the reader assumes that only a part of these bytes was sent.
         """
-        frame = encode(message, sentinel=self._sentinel, terminated=True)
-        lead = closing(self._cut, self._sentinel) if self._cut else b""
-        # If this frame is cut inside a block, the number of bytes missing from the block is less than the frame's
-        # length. If an earlier frame was cut too, up to 254 bytes may be missing.
-        self._cut = 255 if lead else min(len(frame), 255)
-        return lead + frame
+        data = self._lead + encode(message, sentinel=self._sentinel, terminated=True)
+        self._lead = self._closing
+        return data
 
 
 class Frames(Stream):
@@ -115,19 +109,21 @@ class Frames(Stream):
         name = getattr(self._file, "name", None)
         return f"<{type(self).__name__} of {self._file if name is None else name!r}>"
 
-    def _take(self, deadline: Deadline) -> Optional[int]:
+    def _take(self, lefts: Iterator[Optional[float]]) -> Optional[int]:
         """Reads once, unless there are bytes that aren't decoded yet.
 
         Returns the number of bytes that were read, 0 at the end of the stream, or None at a timeout.
         """
         if self._decoder.pending:
             return 1
-        return None if deadline.passed else self._read(self._file, deadline.left(), self._decoder.receive)
+        for left in lefts:
+            return self._read(self._file, left, self._decoder.receive)
+        return None
 
     def __iter__(self) -> Iterator[Outcome]:
         while True:
             yield from self._decoder
-            if not self._decoder.alone("reader", self._take, Deadline(None)):
+            if not self._decoder.alone("reader", self._take, waits(None)):
                 return
 
     def messages(self) -> Iterator[bytes]:
@@ -192,6 +188,7 @@ class FrameReader(Frames):
         sync: bool = False,
     ) -> None:
         super().__init__(file, max_length, sentinel, sync)
+        self._write_all = write_of(file)
         self._requests = threading.RLock()
 
     def __enter__(self) -> FrameReader:
@@ -234,11 +231,11 @@ class FrameReader(Frames):
             ...
         EOFError: the stream ended
         """
-        deadline = Deadline(timeout)
+        lefts = waits(timeout)
         while True:
             for outcome in self._decoder:
                 return outcome
-            count = self._decoder.alone("reader", self._take, deadline)
+            count = self._decoder.alone("reader", self._take, lefts)
             if not count:
                 self._nothing(count)
                 return None
@@ -264,7 +261,7 @@ class FrameReader(Frames):
 
     def _discard(self) -> None:
         end = time.monotonic() + LONGEST_DISCARD
-        while self._take(Deadline(0)) and time.monotonic() < end:
+        while self._take(waits(0)) and time.monotonic() < end:
             self._decoder.discard()
         self._decoder.discard()
 
@@ -285,8 +282,8 @@ class FrameReader(Frames):
         self._decoder.alone("writer", self._write, message)
 
     def _write(self, message: ReadableBuffer) -> None:
-        send(self._file, self._out(message))
-        self._cut = 0
+        self._write_all(self._out(message))
+        self._lead = b""
 
     def request(self, message: ReadableBuffer, timeout: Optional[float], *, discard: bool = True) -> bytes:
         """Sends a message, and returns the reply, which is the next message that is read.
@@ -303,17 +300,16 @@ class FrameReader(Frames):
         If several threads call `request`, each one waits until the requests before it have ended. The time of this
         wait isn't part of `timeout`.
         """
-        Deadline(timeout)
+        lefts = waits(timeout)
         with self._requests:
-            return self._decoder.alone("reader", self._request, message, timeout, discard)
+            return self._decoder.alone("reader", self._request, message, lefts, discard)
 
-    def _request(self, message: ReadableBuffer, timeout: Optional[float], discard: bool) -> bytes:
+    def _request(self, message: ReadableBuffer, lefts: Iterator[Optional[float]], discard: bool) -> bytes:
         if discard:
             self._discard()
         self.write(message)
-        deadline = Deadline(timeout)
         while (reply := self._decoder.take()) is None:
-            count = self._take(deadline)
+            count = self._take(lefts)
             if not count:
                 self._nothing(count)
                 break
