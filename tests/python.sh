@@ -47,6 +47,7 @@ cp -R "$root/bindings/python" "$tree/bindings"
 (cd "$tree/bindings/python" && rm -rf build dist src/*.egg-info src/jcobs/*.so)
 mkdir "$tree/bindings/c"
 ln -s "$root/bindings/c/include" "$root/bindings/c/prebuilt" "$root/bindings/c/source" "$tree/bindings/c"
+ln -s "$root/bindings/programs" "$tree/bindings"
 ln -s "$root/conformance" "$root"/LICENSE-* "$tree"
 package=$tree/bindings/python
 export PYTHONDONTWRITEBYTECODE=1 PIP_DISABLE_PIP_VERSION_CHECK=1 PIP_NO_INDEX=1

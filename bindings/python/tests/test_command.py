@@ -6,6 +6,7 @@ import signal
 import subprocess
 import sys
 import time
+from pathlib import Path
 
 import pytest
 
@@ -35,8 +36,12 @@ def test_a_user_at_a_terminal_is_told_what_it_waits_for(terminals):
 
 
 def test_show():
-    lines = b"message 5 hello\nmessage 0\nmessage 2 ff07\nbroken 1\nmessage 3 abc\nunfinished\n"
-    assert run(data=STREAM) == run("show", data=STREAM) == lines
+    lines = b"message 5 68656c6c6f\nmessage 0\nmessage 2 ff07\nbroken 1\nmessage 3 616263\nunfinished\n"
+    assert run(data=STREAM) == run("show", "--as", "hex", data=STREAM) == lines
+    assert run("--length", "3", data=STREAM).startswith(b"too long\nmessage 0\n")
+    assert run("--sentinel", "7", data=bytes(byte ^ 7 for byte in STREAM)) == lines
+    text = b"message 5 hello\nmessage 0\nmessage 2 ff07\nbroken 1\nmessage 3 abc\nunfinished\n"
+    assert run("--as", "text", data=STREAM) == text
 
 
 def test_each_line_is_shown_at_once():
@@ -46,62 +51,103 @@ def test_each_line_is_shown_at_once():
         for message in (b"one", b"two"):
             shown.stdin.write(jcobs.encode(message, terminated=True))
             shown.stdin.flush()
-            assert shown.stdout.readline() == b"message 3 %s\n" % message  # it waits, if the line is in a buffer
+            assert (
+                shown.stdout.readline() == b"message 3 %s\n" % message.hex().encode()
+            )  # it waits, if the line is in a buffer
         shown.stdin.close()
         assert shown.wait(250) == 0
 
 
-def test_show_hex():
-    lines = b"message 5 68656c6c6f\nmessage 0\nmessage 2 ff07\nbroken 1\nmessage 3 616263\nunfinished\n"
-    assert run("--hex", data=STREAM) == lines
-    assert run("--hex", "--length", "3", data=STREAM).startswith(b"too long\nmessage 0\n")
-    assert run("--hex", "--sentinel", "7", data=bytes(byte ^ 7 for byte in STREAM)) == lines
-
-
 def test_show_json():
-    lines = [json.loads(line) for line in run("--json", data=STREAM).splitlines()]
-    assert lines[0] == {"kind": "message", "length": 5, "hex": "68656c6c6f", "text": "hello"}
-    assert lines[2:] == [
-        {"kind": "message", "length": 2, "hex": "ff07"},
-        {"kind": "broken", "length": 1, "hex": "07"},
-        {"kind": "message", "length": 3, "hex": "616263", "text": "abc"},
-        {"kind": "unfinished"},
+    lines = [
+        b'{"frame":1,"kind":"message","length":5,"hex":"68656c6c6f","text":"hello"}',
+        b'{"frame":2,"kind":"message","length":0,"hex":"","text":""}',
+        b'{"frame":3,"kind":"message","length":2,"hex":"ff07"}',
+        b'{"frame":4,"kind":"broken","length":1}',
+        b'{"frame":5,"kind":"message","length":3,"hex":"616263","text":"abc"}',
+        b'{"kind":"unfinished"}',
     ]
-    too_long = {"kind": "too-long", "length": 3, "hex": "68656c"}
-    assert json.loads(run("--json", "--length", "3", data=STREAM).splitlines()[0]) == too_long
+    assert run("--as", "json", data=STREAM).splitlines() == lines
+    too_long = b'{"frame":1,"kind":"too-long"}'
+    assert run("--as", "json", "--length", "3", data=STREAM).splitlines() == [too_long, *lines[1:]]
 
 
-def test_control_characters_are_not_shown_as_text():
-    assert run(data=jcobs.encode(b"\x1b[2J", terminated=True)) == b"message 4 1b5b324a\n"
+@pytest.mark.parametrize("text", ["\x1b[2J", "a\x7f", "\u202egnp", "\u2028", "\ufeff"])
+def test_hidden_characters_are_not_shown(text):
+    stream = jcobs.encode(text.encode(), terminated=True)
+    assert run("--as", "text", data=stream).split()[2] == text.encode().hex().encode()
+    line = run("--as", "json", data=stream).decode()
+    assert text not in line and json.loads(line)["text"] == text
+
+
+WATCH = Path(__file__).parents[2] / "programs/x86_64-linux/cobs_watch"
+
+
+def watched(*words, data):
+    try:
+        return subprocess.run([WATCH, *words], input=data, stdout=subprocess.PIPE, check=True, timeout=250).stdout
+    except OSError:
+        pytest.skip(f"{WATCH} is not there, or doesn't run here")
+
+
+@pytest.mark.parametrize("words", ["", "--as hex", "--as text", "--as json", "--length 3", "--as json --length 3"])
+def test_the_program_cobs_watch_shows_the_same(words):
+    texts = [
+        "hello",
+        "caf\xe9 \U0001f600 \xa0\ue000",
+        'a "quoted" \\',
+        "tab\tline\n",
+        "\x7f\x85\u202e\u2029\ufeff",
+        "1" * 600,
+    ]
+    messages = [*map(str.encode, texts), b"\xff\0", b"\xed\xa0\x80", b""]
+    stream = STREAM[:-1] + b"".join(jcobs.encode(message, terminated=True) for message in messages) + STREAM[-1:]
+    shown, other = run(*words.split(), data=stream), watched(*words.split(), data=stream)
+    if "json" in words:  # which may escape other characters
+        shown, other = (
+            [json.loads(line, object_pairs_hook=list) for line in one.splitlines()] for one in (shown, other)
+        )
+    assert shown == other
+
+
+@pytest.mark.parametrize(
+    "words, lines", [("", b"hello\n\nlast"), ("--hex", b"00 FF\n\n0a"), ("--sentinel 10", b"a\0b\n")]
+)
+def test_the_program_cobs_watch_sends_the_same(words, lines):
+    assert run("send", *words.split(), data=lines) == watched("send", *words.split(), data=lines)
 
 
 def test_send():
     assert run("send", data=b"hello\n\nlast") == b"\x06hello\x00\x01\x00\x05last\x00"
     assert run("send", "--hex", "--sentinel", "10", data=b"68 65\n00\n") == b"\x09bo\n\x0b\x0b\n"
-    shown = run("--json", data=STREAM[:-1].replace(b"\x03\x07\x00", b""))
-    assert run("send", "--json", data=shown) == STREAM[:-1].replace(b"\x03\x07\x00", b"")
 
 
-@pytest.mark.parametrize("style, line", [("--hex", b"0g"), ("--hex", b"\xff"), ("--json", b"{}"), ("--json", b"[1]")])
-def test_lines_that_cannot_be_sent(style, line):
-    assert run("send", style, data=b"\n" * (style == "--hex") + line, status=1).startswith("jcobs: line ")
+@pytest.mark.parametrize("line", [b"0g", b"\xff", b"123"])
+def test_lines_that_cannot_be_sent(line):
+    assert run("send", "--hex", data=b"\n" + line, status=1) == "jcobs: line 2 is not hexadecimal digits\n"
 
 
 def test_wrong_options():
-    for words in (["--sentinel", "256"], ["--length", "-1"], ["--hex", "--json"], ["listen"], ["--baud", "fast"]):
+    for words in (
+        ["--sentinel", "256"],
+        ["--length", "-1"],
+        ["--hex"],
+        ["send", "--as", "hex"],
+        ["listen"],
+        ["--baud", "fast"],
+    ):
         assert "usage: python -m jcobs" in run(*words, status=2)
 
 
 def test_what_cannot_be_shown_or_held():
     os.environ["PYTHONIOENCODING"] = "ascii"
     try:
-        assert run(data=jcobs.encode("é".encode(), terminated=True)) == b"message 2 \\xe9\n"
+        assert run("--as", "text", data=jcobs.encode("é".encode(), terminated=True)) == b"message 2 \\xe9\n"
     finally:
         del os.environ["PYTHONIOENCODING"]
     for length in ("9" * 14, "9" * 20)[jcobs.backend == "python" :]:  # plain Python takes the memory that it needs
         said = run("--length", length, status=1)
         assert said.startswith("jcobs: ") and len(said) > len("jcobs: \n") and "Traceback" not in said
-    assert "line 1 is not" in run("send", "--json", data=b"[" * 100_000, status=1)
 
 
 def test_no_port():
@@ -124,7 +170,7 @@ def test_output_that_no_one_reads():
     command = f"'{sys.executable}' -m jcobs | head -n 1"
     stream = jcobs.encode(b"hello", terminated=True) * 100_000
     ran = subprocess.run(command, shell=True, input=stream, capture_output=True, timeout=250)
-    assert (ran.stdout, ran.stderr) == (b"message 5 hello\n", b"")
+    assert (ran.stdout, ran.stderr) == (b"message 5 68656c6c6f\n", b"")
 
 
 @pytest.fixture
@@ -151,7 +197,7 @@ def test_show_a_port(port):
                 end.write(b"\x00\x03hi\x00")
                 time.sleep(0.1)
                 lines = (shown.stdout.read() or b"").splitlines()
-            assert set(lines) == {b"message 2 hi"}
+            assert set(lines) == {b"message 2 6869"}
             shown.send_signal(signal.SIGINT)
             assert (shown.wait(250), shown.stderr.read()) == (130, b"")
         finally:

@@ -3,11 +3,13 @@
 from __future__ import annotations
 
 import argparse
+import contextlib
 import io
 import json
 import os
 import sys
-from typing import TYPE_CHECKING, Any, BinaryIO, Dict, Iterator, List, Optional, TextIO, cast
+import unicodedata
+from typing import TYPE_CHECKING, Any, BinaryIO, Dict, Iterator, List, Optional, cast
 
 import jcobs
 from jcobs import Message
@@ -16,7 +18,9 @@ if TYPE_CHECKING:
     from jcobs._files import Readable
     from jcobs._streams import Outcome
 
-NAMES = {jcobs.Message: "message", jcobs.Broken: "broken", jcobs.TooLong: "too long"}
+KINDS = {jcobs.Message: "message", jcobs.Broken: "broken", jcobs.TooLong: "too-long"}
+# The categories of the characters that control a terminal, or that are invisible.
+HIDDEN = ("Cc", "Cf", "Zl", "Zp")
 
 
 class Fault(Exception):
@@ -24,28 +28,25 @@ class Fault(Exception):
 
 
 def arguments() -> argparse.ArgumentParser:
-    common = argparse.ArgumentParser(add_help=False)
-    common.add_argument(
-        "--port", metavar="P", help="a serial port, such as /dev/ttyUSB0, instead of standard input or output"
-    )
-    common.add_argument(
-        "--baud", metavar="N", type=int, default=115200, help="the baud rate of the port (default: %(default)s)"
-    )
-    common.add_argument("--sentinel", metavar="B", type=int, default=0, help="the byte that ends frames (default: 0)")
-    style = common.add_mutually_exclusive_group()
-    style.add_argument("--hex", action="store_true", help="show or read messages as hexadecimal digits")
-    style.add_argument(
-        "--json", action="store_true", help="show or read JSON objects, whose member hex has the message as digits"
-    )
-    parser = argparse.ArgumentParser("python -m jcobs", description=__doc__, parents=[common])
+    parser = argparse.ArgumentParser("python -m jcobs", description=__doc__)
     parser.add_argument("--version", action="version", version=f"jcobs {jcobs.__version__}, backend {jcobs.backend}")
     parser.add_argument(
-        "--length",
-        metavar="N",
-        type=int,
-        default=65536,
-        help="the length of the longest message to show, in bytes (default: %(default)s)",
+        "--port", metavar="P", help="a serial port, such as /dev/ttyUSB0, instead of standard input or output"
     )
+    parser.add_argument(
+        "--baud", metavar="N", type=int, default=115200, help="the baud rate of the port (default: %(default)s)"
+    )
+    parser.add_argument("--sentinel", metavar="B", type=int, default=0, help="the byte that ends frames (default: 0)")
+    parser.add_argument(
+        "--as",
+        dest="style",
+        choices=["hex", "text", "json"],
+        help="how frames are shown: hex, text (if it is UTF-8 without hidden characters) or json (default: hex)",
+    )
+    parser.add_argument(
+        "--length", metavar="N", type=int, default=65536, help="the longest message, in bytes (default: %(default)s)"
+    )
+    parser.add_argument("--hex", action="store_true", help="each line that is sent has hexadecimal digits")
     parser.add_argument("command", nargs="?", choices=["show", "send"], default="show", help="(default: %(default)s)")
     return parser
 
@@ -61,66 +62,48 @@ def open_port(name: str, baud: int) -> Any:
         raise Fault(str(error)) from None
 
 
-def text_of(message: bytes) -> str:
-    """Returns a message as text if it is UTF-8 without control characters, and otherwise as hexadecimal digits."""
-    try:
-        text = message.decode()
-    except UnicodeDecodeError:
-        return message.hex()
-    return text if text.isprintable() else message.hex()
-
-
-def members_of(outcome: Outcome) -> Dict[str, Any]:
-    """Returns the members of an outcome's JSON object, except the member `kind`.
-
-    If the frame is broken or too long, these members describe the bytes that were decoded.
-    """
-    members = {"length": len(outcome.data), "hex": outcome.data.hex()}
-    if not isinstance(outcome, Message):
-        return members
-    try:
-        return {**members, "text": outcome.data.decode()}
-    except UnicodeDecodeError:
-        return members
-
-
-def line_of(outcome: Outcome, options: argparse.Namespace) -> str:
-    """Returns the line that shows an outcome. The JSON members have the names that the program cobs_watch uses."""
-    name = NAMES[type(outcome)]
-    if options.json:
-        return json.dumps({"kind": name.replace(" ", "-"), **members_of(outcome)})
+def members_of(number: int, outcome: Outcome) -> Dict[str, Any]:
+    """Returns the members of an outcome's JSON object, as the program cobs_watch writes them."""
+    members: Dict[str, Any] = {"frame": number, "kind": KINDS[type(outcome)]}
+    if not isinstance(outcome, jcobs.TooLong):
+        members["length"] = len(outcome.data)
     if isinstance(outcome, Message):
-        shown = outcome.data.hex() if options.hex else text_of(outcome.data)
-        return f"{name} {len(outcome.data)} {shown}" if shown else f"{name} 0"
-    return f"{name} {len(outcome.data)}" if isinstance(outcome, jcobs.Broken) else name
+        members["hex"] = outcome.data.hex()
+        with contextlib.suppress(UnicodeDecodeError):
+            members["text"] = outcome.data.decode()
+    return members
 
 
-def show(source: Readable, output: TextIO, options: argparse.Namespace) -> None:
+def line_of(members: Dict[str, Any], style: str) -> str:
+    if style == "json":
+        return json.dumps(members, separators=(",", ":"))
+    shown, text = members.get("hex"), members.get("text")
+    if style == "text" and text is not None and not any(unicodedata.category(one) in HIDDEN for one in text):
+        shown = text
+    words = (members["kind"].replace("-", " "), members.get("length"), shown)
+    return " ".join(str(word) for word in words if word not in (None, ""))
+
+
+def show(source: Readable, options: argparse.Namespace) -> None:
     reader = jcobs.FrameReader(source, options.length, options.sentinel)
-    for outcome in reader:
-        print(line_of(outcome, options), file=output, flush=True)
+    for number, outcome in enumerate(reader, 1):
+        print(line_of(members_of(number, outcome), options.style), flush=True)
     if reader.unfinished:
-        print(json.dumps({"kind": "unfinished"}) if options.json else "unfinished", file=output, flush=True)
+        print(line_of({"kind": "unfinished"}, options.style), flush=True)
 
 
-def messages(lines: BinaryIO, options: argparse.Namespace) -> Iterator[bytes]:
+def messages(lines: BinaryIO, digits: bool) -> Iterator[bytes]:
     """Yields the message for each line of the input."""
     for number, line in enumerate(lines, 1):
         text = line[:-1] if line.endswith(b"\n") else line
         try:
-            if options.json:
-                yield bytes.fromhex(json.loads(text)["hex"])
-            elif options.hex:
-                yield bytes.fromhex(text.decode("ascii"))
-            else:
-                yield text
-        except (ValueError, KeyError, TypeError, RecursionError):
-            wanted = "a JSON object with hexadecimal digits as hex" if options.json else "hexadecimal digits"
-            raise Fault(f"line {number} is not {wanted}") from None
+            yield bytes.fromhex(text.decode("ascii")) if digits else text
+        except ValueError:
+            raise Fault(f"line {number} is not hexadecimal digits") from None
 
 
 def send(lines: BinaryIO, port: BinaryIO, options: argparse.Namespace) -> None:
-    for message in messages(lines, options):
+    for message in messages(lines, options.hex):
         port.write(jcobs.encode(message, sentinel=options.sentinel, terminated=True))
         port.flush()
 
@@ -135,7 +118,7 @@ def run(options: argparse.Namespace) -> None:
         if port is None and sys.stdin.isatty():
             version = f"jcobs {jcobs.__version__}, backend {jcobs.backend}"
             print(f"{version}: waits for frames from the terminal", file=sys.stderr)
-        show(port or cast("Readable", sys.stdin.buffer), sys.stdout, options)
+        show(port or cast("Readable", sys.stdin.buffer), options)
 
 
 def main(words: Optional[List[str]] = None) -> int:
@@ -145,6 +128,10 @@ def main(words: Optional[List[str]] = None) -> int:
         parser.error("--sentinel: must be in 0 to 255")
     if options.length < 0:
         parser.error("--length: must not be negative")
+    if options.hex and options.command == "show":
+        parser.error("--hex: is for send; to show frames, use --as")
+    if options.style and options.command == "send":
+        parser.error("--as: is for show; to send digits, use --hex")
     try:
         run(options)
     except BrokenPipeError:
