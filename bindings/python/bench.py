@@ -1,76 +1,31 @@
-"""Compares the speed of the package with its plain Python, with the C library that it calls and with a plain extension.
+"""Counts the instructions of the package's calls, of its plain Python, and of a plain extension, with valgrind's callgrind.
 
-usage: python bench.py [--random] [LENGTH ..]
+usage: python bench.py [LENGTH ..]
 
-The messages are like records: one byte in 16 is zero, at random places. With --random all bytes are random. A decoder
-is fed chunks of one frame, as from a serial line, and chunks of 64 KiB, as from a log. A loop over the outcomes of such a
-log is measured over `Decoder.feed` and over `frames`.
+The messages are like records: one byte in 16 is zero, at random places. A decoder is fed chunks of one frame, as from a
+serial line, and chunks of 64 KiB, as from a log. A loop over the outcomes of such a log is counted over `Decoder.feed`
+and over `frames`. The readers read and write in memory, and read from a socket with a timeout.
 
-A loop in C calls the C library. The plain extension is encode and decode as one writes them by hand in C, with loops
-over the bytes, and with CPython's full interface. This script compiles the loop and the plain extension. A time is the
-least processor time of several runs, in which the four take turns.
+The plain extension is encode and decode as one writes them by hand in C, with loops over the bytes, and with CPython's
+full interface. This script compiles it. A count includes the loop around the calls.
 """
 
 import importlib.util
+import io
+import os
 import random
+import re
+import socket
 import subprocess
 import sys
 import sysconfig
 import tempfile
-import time
 from pathlib import Path
 
-HERE = Path(__file__).resolve().parent
-sys.path[:0] = [str(HERE)]
+import jcobs
+from jcobs import _plain
 
-import setup  # noqa: E402
-
-import jcobs  # noqa: E402
-from jcobs import _plain  # noqa: E402
-
-LENGTHS = [20, 1024, 65536]
-ROUNDS = 15
-
-LOOP = r"""
-#include <stdio.h>
-#include <stdlib.h>
-#include <time.h>
-#include "jcobs.h"
-
-static double now(void)
-{
-    struct timespec t;
-    clock_gettime(CLOCK_PROCESS_CPUTIME_ID, &t);
-    return (double)t.tv_sec + (double)t.tv_nsec * 1e-9;
-}
-
-int main(int argc, char **argv)
-{
-    size_t len = strtoul(argv[1], NULL, 10), room = jcobs_max_length(len);
-    long i, count = strtol(argv[2], NULL, 10);
-    unsigned char *message = malloc(len), *frame = malloc(room + 1), *back = malloc(room);
-    jcobs_decoder decoder = JCOBS_DECODER_INIT;
-    jcobs_answer answer = {0, 0, 0}, done = {0, 0, 0};
-    double begin, middle, late;
-
-    if (argc != 3 || fread(message, 1, len, stdin) != len)
-        return 1;
-    begin = now();
-    for (i = 0; i < count; i++)
-        answer = jcobs_encode(message, len, frame, room);
-    middle = now();
-    for (i = 0; i < count; i++)
-        done = jcobs_decode(frame, answer.length, back, room);
-    late = now();
-    frame[answer.length] = 0;
-    for (i = 0; i < count; i++)
-        done = jcobs_decoder_push(&decoder, back, room, frame, answer.length + 1);
-    printf("%.12f %.12f %.12f\n", (middle - begin) / (double)count, (late - middle) / (double)count,
-           (now() - late) / (double)count);
-    return done.length != len;
-}
-"""
-
+LENGTHS = [20, 1024]
 
 EXTENSION = r"""
 #define PY_SSIZE_T_CLEAN
@@ -133,7 +88,23 @@ static PyObject *decode(PyObject *module, PyObject *data)
     return message;
 }
 
-static PyMethodDef functions[] = {{"encode", encode, METH_O, NULL}, {"decode", decode, METH_O, NULL}, {NULL}};
+/* callgrind counts from a call of this function .. */
+static PyObject *count_from_here(PyObject *module, PyObject *none)
+{
+    Py_RETURN_NONE;
+}
+
+/* .. to a call of this one. */
+static PyObject *count_to_here(PyObject *module, PyObject *none)
+{
+    Py_RETURN_NONE;
+}
+
+static PyMethodDef functions[] = {{"encode", encode, METH_O, NULL},
+                                  {"decode", decode, METH_O, NULL},
+                                  {"begin", count_from_here, METH_NOARGS, NULL},
+                                  {"end", count_to_here, METH_NOARGS, NULL},
+                                  {NULL}};
 static PyModuleDef definition = {PyModuleDef_HEAD_INIT, "plain_extension", NULL, -1, functions};
 
 PyMODINIT_FUNC PyInit_plain_extension(void)
@@ -143,100 +114,98 @@ PyMODINIT_FUNC PyInit_plain_extension(void)
 """
 
 
-def extension(folder):
-    """Compiles the plain extension, and returns its module."""
+def compiled(folder):
+    """Compiles the plain extension, and returns its path."""
     source, built = folder / "plain_extension.c", folder / "plain_extension.so"
     source.write_text(EXTENSION)
     include = sysconfig.get_path("include")
     subprocess.run(["cc", "-O2", "-shared", "-fPIC", f"-I{include}", source, "-o", built], check=True)
-    spec = importlib.util.spec_from_file_location("plain_extension", built)
+    return built
+
+
+def loaded(path):
+    spec = importlib.util.spec_from_file_location("plain_extension", path)
     module = importlib.util.module_from_spec(spec)
     spec.loader.exec_module(module)
     return module
 
 
-def compiled(folder):
-    """Compiles the loop over the library that setup.py finds, and returns the program."""
-    (folder / "loop.c").write_text(LOOP)
-    library = setup.library(setup.MACHINE)
-    subprocess.run(["cc", "-O2", f"-I{setup.include()}", folder / "loop.c", library, "-o", folder / "loop"], check=True)
-    return folder / "loop"
-
-
-def timed(call, argument, count):
-    begin = time.process_time()
-    for _ in range(count):
-        call(argument)
-    return (time.process_time() - begin) / count
-
-
-def made(length, at_random):
+def made(length):
     """A message of this length."""
     source = random.Random(length)
-    if at_random:
-        return source.randbytes(length)
     return bytes(source.randrange(1, 256) * (source.randrange(16) > 0) for _ in range(length))
 
 
-def by_feed(decoder):
+def repeated(call, argument):
+    return lambda count: [None for _ in range(count) if call(argument) and False]
+
+
+def by_feed(decoder, log):
     """A loop over the outcomes of a log that `Decoder.feed` returns."""
-    return lambda log: [None for at in range(0, len(log), 65536) for _ in decoder.feed(log[at : at + 65536])]
+    return lambda count: [None for at in range(0, len(log), 65536) for _ in decoder.feed(log[at : at + 65536])]
 
 
-def by_frames(length):
-    return lambda log: [None for _ in jcobs.frames(log, length)]
+def socket_reads(length, chunk):
+    here, there = socket.socketpair()
+    reader = jcobs.FrameReader(here, length)
+    return lambda count: [None for _ in range(count) if there.sendall(chunk) or not reader.read(timeout=1)]
 
 
-def measured(program, plain_extension, length, at_random):
-    """Seconds a call, or a frame: of the package, the C library, the plain extension and plain Python, by names."""
-    message = made(length, at_random)
+def rows_of(length, plain_extension):
+    """Yields a name, how many calls or frames are counted, and the functions of the package, the extension and Python."""
+    message = made(length)
     frame = jcobs.encode(message)
     assert plain_extension.encode(message) == frame and plain_extension.decode(frame) == message
-    chunk = frame + b"\0"
-    count = max(10, 4_000_000 // (length + 400))
-    decoder, plain = jcobs.Decoder(length), _plain.Decoder(length, 0, jcobs._streams.CLASSES)
+    count, chunk = max(4, 400_000 // (length + 1000)), frame + b"\0"
     in_log = 4 * 65536 // len(chunk)
     log = chunk * in_log
-    rows = {
-        "encode": (jcobs.encode, plain_extension.encode, _plain.encode, message, 1),
-        "decode": (jcobs.decode, plain_extension.decode, _plain.decode, frame, 1),
-        "feed of 1 frame": (decoder.feed, None, plain.feed, chunk, 1),
-        "log by feed, per frame": (by_feed(decoder), None, by_feed(plain), log, in_log),
-        "log by frames, per frame": (by_frames(length), None, None, log, in_log),
-    }
-    best = {name: [9e9] * 4 for name in rows}
-    for _ in range(ROUNDS):
-        ran = subprocess.run([program, str(length), str(count)], input=message, stdout=subprocess.PIPE, check=True)
-        encoding, decoding, feeding = map(float, ran.stdout.split())
-        for (name, (ours, extension, in_python, argument, frames)), c in zip(
-            rows.items(), (encoding, decoding, feeding, feeding, feeding)
-        ):
-            turns = max(1, count // frames)
-            found = [
-                timed(ours, argument, turns) / frames,
-                c,
-                timed(extension, argument, turns) if extension else 9e9,
-                timed(in_python, argument, max(1, turns // 100)) / frames if in_python else 9e9,
-            ]
-            best[name] = [min(pair) for pair in zip(best[name], found)]
-    return best
+    decoder, plain = jcobs.Decoder(length), _plain.Decoder(length, 0, jcobs._streams.CLASSES)
+    reader, writer = jcobs.FrameReader(io.BytesIO(chunk * count * 2), length), jcobs.FrameReader(io.BytesIO(), length)
+    for name, argument in ("encode", message), ("decode", frame):
+        yield name, count, *[repeated(getattr(one, name), argument) for one in (jcobs, plain_extension, _plain)]
+    yield "`feed` of a frame", count, repeated(decoder.feed, chunk), None, repeated(plain.feed, chunk)
+    yield "log by `feed`, a frame", in_log, by_feed(decoder, log), None, by_feed(plain, log)
+    yield "log by `frames`, a frame", in_log, lambda count: [None for _ in jcobs.frames(log, length)], None, None
+    yield "`read` in memory", count, lambda count: [None for _ in range(count) if not reader.read()], None, None
+    yield "`write` in memory", count, repeated(writer.write, message), None, None
+    yield "`sendall` and `read(timeout=1)`, socket", count, socket_reads(length, chunk), None, None
 
 
-def shown(seconds):
-    microseconds = seconds * 1e6
-    return "" if seconds > 1e6 else f"{microseconds:,.3f}" if microseconds < 1 else f"{microseconds:,.2f}"
+def count_all(path, length):
+    """Runs each call under callgrind, which counts between `begin` and `end`."""
+    plain_extension = loaded(path)
+    for name, count, *calls in rows_of(length, plain_extension):
+        for call in filter(None, calls):
+            call(count)  # CPython adapts its code to what it runs
+            plain_extension.begin()
+            call(count)
+            plain_extension.end()
+
+
+def counted(path, length):
+    """Returns the instructions between each `begin` and `end`, in the order of `rows_of`."""
+    sums = path.parent / f"sums.{length}"
+    words = ["valgrind", "--tool=callgrind", "--combine-dumps=yes", "--zero-before=count_from_here"]
+    words += ["--dump-before=count_to_here", f"--callgrind-out-file={sums}"]
+    words += [sys.executable, __file__, "--under-callgrind", path, str(length)]
+    subprocess.run(words, check=True, stderr=subprocess.DEVNULL, env={**os.environ, "PYTHONHASHSEED": "0"})
+    found = re.findall(r"Trigger: --dump-before=count_to_here\n.*?^summary: (\d+)", sums.read_text(), re.M | re.S)
+    return map(int, found)
 
 
 def main(words):
-    lengths = [int(word) for word in words if word != "--random"] or LENGTHS
+    if words[:1] == ["--under-callgrind"]:
+        count_all(Path(words[1]), int(words[2]))
+        return
     with tempfile.TemporaryDirectory() as folder:
-        program, plain_extension = compiled(Path(folder)), extension(Path(folder))
-        print("| bytes | call | jcobs | C library | plain extension | plain Python | jcobs / plain extension |")
-        print("|---:|---|---:|---:|---:|---:|---:|")
-        for length in lengths:
-            for name, times in measured(program, plain_extension, length, "--random" in words).items():
-                ratio = "" if times[2] > 1e6 else f"{times[0] / times[2]:.2f}"
-                print(f"| {length:,} | {name} |", " | ".join(map(shown, times)), f"| {ratio} |", flush=True)
+        path = compiled(Path(folder))
+        print("| bytes | call | jcobs | plain extension | plain Python |")
+        print("|---:|---|---:|---:|---:|")
+        for length in map(int, words or LENGTHS):
+            counts = counted(path, length)
+            for name, count, *calls in rows_of(length, loaded(path)):
+                shown = [f"{next(counts) // count:,}" if call else "" for call in calls]
+                print(f"| {length:,} | {name} |", " | ".join(shown), "|", flush=True)
 
 
 if __name__ == "__main__":

@@ -33,7 +33,7 @@ def closing(sentinel: int) -> bytes:
     that block. The next byte is the code 255. Fewer than 254 bytes follow it, so the frame is broken. If no byte of a
     block is missing, the first byte is a block that has only its code, and the next one is the code 255.
     """
-    return bytes(byte ^ sentinel for byte in b"\x01" + b"\xff" * 254 + b"\0")
+    return bytes([1 ^ sentinel]) + bytes([255 ^ sentinel]) * 254 + bytes([sentinel])
 
 
 def reply_of(outcome: Optional[Outcome]) -> bytes:
