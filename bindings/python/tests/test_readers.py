@@ -13,6 +13,7 @@ import stat
 import subprocess
 import threading
 import time
+import types
 from fractions import Fraction
 
 import pytest
@@ -20,6 +21,7 @@ from hypothesis import given, settings
 from hypothesis import strategies as st
 
 import jcobs
+from jcobs import _readers
 
 STREAM = b"\x03hi\0\x06hel\0\x07hello!\0\x02"
 OUTCOMES = [jcobs.Message(b"hi"), jcobs.Broken(b"hel"), jcobs.TooLong(b"hello")]
@@ -238,6 +240,13 @@ def test_a_timeout_is_for_the_whole_frame(kind):
         finally:
             stop.set()
             writer.join()
+
+
+@pytest.mark.parametrize("timeout, waits", [(5, [5, 2]), (0, [0]), (math.inf, [2e6] * 3), (None, [None] * 3)])
+def test_each_wait_is_for_what_is_left(timeout, waits, monkeypatch):
+    moments = iter([100.0, 103.0, 105.0])
+    monkeypatch.setattr(_readers, "time", types.SimpleNamespace(monotonic=lambda: next(moments)))
+    assert list(itertools.islice(_readers.waits(timeout), 3)) == waits
 
 
 def test_wrong_timeouts():
