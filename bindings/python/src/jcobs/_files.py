@@ -207,18 +207,13 @@ def read_of(file: Any) -> Read:
     return read_file
 
 
-def write_by(write: Callable[[bytes], Optional[int]], data: bytes) -> None:
-    """Calls a function that writes a part of its argument, until all of the data is written."""
+def write_raw(file: Any, data: bytes, ready: Optional[Callable[[Any], bool]] = None) -> None:
+    """Writes all of the data to a raw file, part by part, as long as it takes any and is ready."""
     while data:
-        count = write(data)
+        count = file.write(data) if ready is None or ready(file) else None
         if not count:
             raise BlockingIOError(errno.EAGAIN, f"the file took no more, with {len(data)} bytes of the frame left")
         data = data[count:]
-
-
-def write_raw(file: Any, data: bytes) -> None:
-    """Writes all of the data to a raw file."""
-    write_by(file.write, data)
 
 
 def write_port(port: Any, data: bytes) -> None:
@@ -229,7 +224,7 @@ def write_port(port: Any, data: bytes) -> None:
     """
     if getattr(port, "write_timeout", None) == 0:
         # A write of pyserial without a wait tries again and again, as long as the port takes no byte.
-        write_by(lambda left: port.write(left) if takes(port) else None, data)
+        write_raw(port, data, takes)
         return
     count = port.write(data)
     if count is not None and count < len(data):
@@ -240,7 +235,7 @@ def write_file(file: Any, data: bytes) -> None:
     """Writes all of the data to a file that has a buffer, or to another object. If `write` returns None, it wrote all."""
     count = file.write(data)
     if count is not None and count < len(data):
-        write_by(file.write, data[count:])
+        write_raw(file, data[count:])
     if hasattr(file, "flush"):
         file.flush()
 
@@ -252,4 +247,6 @@ def write_of(file: Any) -> Write:
         return send
     if hasattr(file, "in_waiting"):
         return functools.partial(write_port, file)
-    return functools.partial(write_raw if isinstance(file, io.RawIOBase) else write_file, file)
+    if isinstance(file, io.RawIOBase):
+        return functools.partial(write_raw, file)
+    return functools.partial(write_file, file)
