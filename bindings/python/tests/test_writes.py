@@ -117,6 +117,25 @@ def test_sync(message, sentinel):
         assert found[1:] == [jcobs.Message(b"one"), jcobs.Message(b"two")] and isinstance(found[0], jcobs.Broken)
 
 
+def test_an_object_that_takes_a_part_at_a_time():
+    class Other:
+        room, written = 100, b""
+
+        def write(self, data):
+            count = min(3, self.room, len(data))
+            self.room -= count
+            self.written += data[:count]
+            return count
+
+    other = Other()
+    writer = jcobs.FrameReader(other)
+    writer.write(b"hello")
+    assert other.written == b"\x06hello\0"
+    other.room = 4
+    with pytest.raises(BlockingIOError, match="took no more, with 3 bytes of the frame left"):
+        writer.write(b"hello")
+
+
 def drained(receive, count):
     """Reads until there are so many messages, and returns all outcomes."""
     decoder, found = jcobs.Decoder(), []
