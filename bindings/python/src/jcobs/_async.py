@@ -8,7 +8,7 @@ from typing import TYPE_CHECKING, Any, AsyncIterator, Iterator, Optional, Protoc
 
 from jcobs._files import CHUNK
 from jcobs._readers import LONGEST_DISCARD, Stream, reply_of, waits
-from jcobs._streams import Message, Outcome
+from jcobs._streams import Message, Outcome, encode
 
 if TYPE_CHECKING:
     from asyncio import StreamReader, StreamWriter
@@ -246,13 +246,16 @@ class AsyncFrameReader(Stream):
         """
         if self._writer is None:
             raise TypeError("to write, pass the stream's writer: AsyncFrameReader(stream, writer=writer)")
+        frame = encode(message, sentinel=self._sentinel, terminated=True)
         if not hasattr(self._writer, "drain"):
             send = getattr(self._writer, "send_all" if hasattr(self._writer, "send_all") else "send")
             with self._sending:
-                await send(self._out(message))
+                lead, self._lead = self._lead, self._closing
+                await send(lead + frame)
                 self._lead = b""
             return
-        self._writer.write(self._out(message))
+        lead, self._lead = self._lead, self._closing
+        self._writer.write(lead + frame)
         self._lead = b""  # the writer has the whole frame, and sends it even if this call is cancelled
         await self._writer.drain()
 

@@ -71,6 +71,7 @@ class Stream(Coder):
         self._decoder = core.Decoder(max_length, sentinel, CLASSES)
         self._sentinel = operator.index(sentinel)
         self._closing = closing(self._sentinel)
+        # What goes before the next frame. While a frame is sent, this is `_closing`: it may be cut.
         self._lead = self._closing if sync else b""
 
     @property
@@ -86,15 +87,6 @@ class Stream(Coder):
         """Raises EOFError if a read has returned 0 bytes. If it has returned None, its timeout has passed."""
         if count == 0:
             raise EOFError("the stream ended inside a frame" if self.unfinished else "the stream ended")
-
-    def _out(self, message: ReadableBuffer) -> bytes:
-        """Returns the bytes to send for a message.
-
-        Until the caller empties `_lead`, the reader assumes that only a part of these bytes was sent.
-        """
-        data = self._lead + encode(message, sentinel=self._sentinel, terminated=True)
-        self._lead = self._closing
-        return data
 
 
 class Frames(Stream):
@@ -279,10 +271,12 @@ class FrameReader(Frames):
         >>> file.getvalue()
         b'\\x06hello\\x00'
         """
-        self._decoder.alone("writer", self._write, message)
+        frame = encode(message, sentinel=self._sentinel, terminated=True)
+        self._decoder.alone("writer", self._write, frame)
 
-    def _write(self, message: ReadableBuffer) -> None:
-        self._write_all(self._out(message))
+    def _write(self, frame: bytes) -> None:
+        lead, self._lead = self._lead, self._closing
+        self._write_all(lead + frame)
         self._lead = b""
 
     def request(self, message: ReadableBuffer, timeout: Optional[float], *, discard: bool = True) -> bytes:
