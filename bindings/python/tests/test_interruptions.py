@@ -130,16 +130,20 @@ class Alarms:
             self.raised += 1
             raise Interruption
 
+    def repeat(self, step):
+        self.armed = True
+        while step():
+            pass
+        self.armed = False
+
     def run(self, step):
         """Calls the step again and again, until it returns false, or raises an EOFError."""
         signal.setitimer(signal.ITIMER_REAL, 0.001, 0.01)
         going = True
         while going:
             try:
-                self.armed = True
-                while going:
-                    going = step()
-                self.armed = False
+                self.repeat(step)  # a call, as `try` misses what is raised at the jump of a loop in it on CPython 3.13
+                going = False
             except Interruption:
                 pass
             except EOFError:
