@@ -17,12 +17,13 @@ chromium=${CHROMIUM:-chromium}
 . "$root/tests/count.sh"
 begun=
 
-# Begins a file that prints how many of its checks passed and failed on its last line; they run beside each other.
+# Begins a file that prints how many of its checks passed and failed on its last line; they run beside each other. A file that loops
+# for ever is ended after an hour.
 begin() { # NAME COMMAND..
     name=$1
     shift
     begun="$begun $name"
-    { "$@" </dev/null >"$work/$name.said" 2>&1; echo $? >"$work/$name.status"; } &
+    { timeout 3600 "$@" </dev/null >"$work/$name.said" 2>&1; echo $? >"$work/$name.status"; } &
 }
 
 # Waits for the files that were begun, prints what each said, and adds its checks up.

@@ -65,19 +65,19 @@ export interface DecoderOptions extends PieceOptions {
 }
 
 /**
- * The outcome of a piece of a stream. A piece is the bytes between two neighbouring sentinels, or before the first sentinel. A
+ * The outcome of a piece of a stream: its `kind`, and what belongs to that kind. A piece is the bytes between two neighbouring sentinels, or before the first sentinel. A
  * piece has at least one byte. So a sentinel at the start, or after another sentinel, has no outcome.
  */
 export type Outcome =
   /** The piece is a frame, and `message` is its message. */
-  | { message: Uint8Array; broken?: undefined; tooLong?: undefined }
+  | { kind: "message"; message: Uint8Array }
   /**
-   * The piece breaks off inside a block. `broken` is the number of bytes that the piece decodes to before it breaks off, which is
-   * at most `maxLength`.
+   * The piece breaks off inside a block. `decodedBytes` is the number of bytes that the piece decodes to before it breaks off,
+   * which is at most `maxLength`.
    */
-  | { broken: number; message?: undefined; tooLong?: undefined }
+  | { kind: "broken"; decodedBytes: number }
   /** The piece decodes to more than `maxLength` bytes, whether or not it then breaks off. */
-  | { tooLong: true; message?: undefined; broken?: undefined };
+  | { kind: "tooLong" };
 
 /**
  * The error of a call that failed. `kind` is the reason:

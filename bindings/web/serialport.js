@@ -1,10 +1,10 @@
 // Offers COBS as streams of Node. You can pipe them from and to a port of the package serialport:
 //
-//     port.pipe(new FrameDecoderTransform({ skipFirst: true })).on("data", ({ message }) => ..);
+//     port.pipe(new FrameDecoderTransform({ skipFirst: true })).on("data", ({ kind, message }) => ..);
 import { Transform } from "node:stream";
 import { FrameDecoder, encode, load } from "./dist/node.js";
 
-/** Turns bytes into outcomes. For each piece that a sentinel ends, the outcome is `{message}`, `{broken: n}` or `{tooLong: true}`. */
+/** Turns bytes into outcomes. There is one outcome for each piece that a sentinel ends; its `kind` is `message`, `broken` or `tooLong`. */
 export class FrameDecoderTransform extends Transform {
   #options;
   #decoder;

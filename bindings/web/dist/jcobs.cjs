@@ -580,9 +580,9 @@ class FrameDecoder {
       at += consumed;
       if (fault.isThrown) continue;
       try {
-        if (status === OK) visit({ message: arena.machine.read(buffer, length) }, offset + at);
-        else if (status === BROKEN) visit({ broken: length }, offset + at);
-        else if (status === TOO_SMALL) visit({ tooLong: true }, offset + at);
+        if (status === OK) visit({ kind: "message", message: arena.machine.read(buffer, length) }, offset + at);
+        else if (status === BROKEN) visit({ kind: "broken", decodedBytes: length }, offset + at);
+        else if (status === TOO_SMALL) visit({ kind: "tooLong" }, offset + at);
       } catch (thrown) {
         fault.thrown = thrown;
         fault.isThrown = true;
@@ -757,7 +757,7 @@ function writableOf(link) {
   });
 }
 
-/** Turns bytes into outcomes. For each piece that a sentinel ends, the outcome is `{message}`, `{broken: n}` or `{tooLong: true}`. */
+/** Turns bytes into outcomes. There is one outcome for each piece that a sentinel ends; its `kind` is `message`, `broken` or `tooLong`. */
 class FrameDecoderStream {
   #decoder;
 

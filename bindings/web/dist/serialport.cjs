@@ -1,11 +1,11 @@
 // Written by pack.mjs from serialport.js; edit that.
 // Offers COBS as streams of Node. You can pipe them from and to a port of the package serialport:
 //
-//     port.pipe(new FrameDecoderTransform({ skipFirst: true })).on("data", ({ message }) => ..);
+//     port.pipe(new FrameDecoderTransform({ skipFirst: true })).on("data", ({ kind, message }) => ..);
 const { Transform } = require("node:stream");
 const { FrameDecoder, encode, load } = require("./jcobs.cjs");
 
-/** Turns bytes into outcomes. For each piece that a sentinel ends, the outcome is `{message}`, `{broken: n}` or `{tooLong: true}`. */
+/** Turns bytes into outcomes. There is one outcome for each piece that a sentinel ends; its `kind` is `message`, `broken` or `tooLong`. */
 class FrameDecoderTransform extends Transform {
   #options;
   #decoder;

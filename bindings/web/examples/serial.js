@@ -19,8 +19,9 @@ export function talk(port, show) {
     for (;;) {
       const { value, done } = await reader.read();
       if (done) return;
-      if (value.message) show(value.message);
-      else console.warn(value.tooLong ? "a message is too long" : `a frame breaks off after ${value.broken} bytes`);
+      if (value.kind === "message") show(value.message);
+      else if (value.kind === "broken") console.warn(`a frame breaks off inside a block; bytes decoded before that: ${value.decodedBytes}`);
+      else console.warn("a message is too long");
     }
   }
 

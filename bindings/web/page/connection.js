@@ -68,7 +68,7 @@ export class Connection {
       decoder.push(chunk, (outcome, end) => {
         sayLeft();
         from = Math.max(from, decoder.skipped - skipped);
-        this.#on.outcome(outcome, outcome.message ? undefined : keptOf([...begun, chunk.subarray(from, end)], this.#options.sentinel));
+        this.#on.outcome(outcome, outcome.kind === "message" ? undefined : keptOf([...begun, chunk.subarray(from, end)], this.#options.sentinel));
         begun = [];
         from = end;
       });

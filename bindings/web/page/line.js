@@ -60,17 +60,17 @@ function add(entry) {
   if (connection) status.speak(`Connected. ${counted(totals.messages, "message")}, ${count(totals.broken)} broken, ${count(totals.tooLong)} too long.`); // as the counters show
 }
 
-function receive({ message, broken, tooLong }, raw) {
-  if (message) {
+function receive({ kind, message, decodedBytes }, raw) {
+  if (kind === "message") {
     totals.messages++;
     totals.bytes += message.length;
-    add({ way: "in", kind: "message", message });
-  } else if (tooLong) {
+    add({ way: "in", kind, message });
+  } else if (kind === "tooLong") {
     totals.tooLong++;
     add({ way: "in", kind: "too long", note: "for the buffer", raw });
   } else {
     totals.broken++;
-    add({ way: "in", kind: "broken", note: `after ${counted(broken, "byte")} of output`, raw });
+    add({ way: "in", kind, note: `after ${counted(decodedBytes, "byte")} of output`, raw });
   }
 }
 

@@ -244,8 +244,8 @@ function formOfText() {
 
 function isAllMessages() {
   let count = 0;
-  for (const outcome of frames(message, { sentinel })) {
-    if (!outcome.message) return false;
+  for (const { kind: kindOfPiece } of frames(message, { sentinel })) {
+    if (kindOfPiece !== "message") return false;
     count++;
   }
   return count > 0;

@@ -11,12 +11,7 @@ const UNFINISHED = 3;
 const IDLE = 4;
 export const BADGES = ["message", "broken", "too long", "unfinished", "idle"];
 
-function kindOf({ message, broken, tooLong, isIdle }) {
-  if (message) return MESSAGE;
-  if (broken !== undefined) return BROKEN;
-  if (tooLong) return TOO_LONG;
-  return isIdle ? IDLE : UNFINISHED;
-}
+const KINDS = { message: MESSAGE, broken: BROKEN, tooLong: TOO_LONG, unfinished: UNFINISHED, idle: IDLE };
 
 /** Returns the only piece of these bytes, without the sentinels around it, or null if there are several pieces. */
 export function onlyPiece(bytes, sentinel) {
@@ -45,18 +40,18 @@ export class Pieces {
     this.ended = this.count;
     this.isUnfinished = decoder.unfinished;
     decoder.close();
-    if (this.start(this.ended) < stream.length) this.#add({ isIdle: !this.isUnfinished }, stream.length);
+    if (this.start(this.ended) < stream.length) this.#add({ kind: this.isUnfinished ? "unfinished" : "idle" }, stream.length);
   }
 
-  #add(outcome, end) {
+  #add({ kind, message, decodedBytes = 0 }, end) {
     if (this.count === this.ends.length) this.#grow();
     const at = this.count++;
     this.ends[at] = end;
     let front = this.start(at);
     while (front < end && this.stream[front] === this.sentinel) front++;
     this.fronts[at] = front;
-    this.kinds[at] = kindOf(outcome);
-    this.lengths[at] = outcome.message?.length ?? outcome.broken ?? 0;
+    this.kinds[at] = KINDS[kind];
+    this.lengths[at] = message?.length ?? decodedBytes;
   }
 
   #grow() {

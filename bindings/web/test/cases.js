@@ -111,7 +111,12 @@ async function throughStream(stream, chunks) {
   return taken;
 }
 
-const outcomeWords = ({ message, broken }) => (message ? ["message", wordOf(message)] : broken !== undefined ? ["broken", String(broken)] : ["too_long", "-"]);
+const OUTCOMES = {
+  message: ({ message }) => ["message", wordOf(message)],
+  broken: ({ decodedBytes }) => ["broken", String(decodedBytes)],
+  tooLong: () => ["too_long", "-"],
+};
+const outcomeWords = (outcome) => OUTCOMES[outcome.kind](outcome);
 
 /** Returns the results of a streaming encoder of the module: the length of the frame, the buffer, and a word for each piece. */
 function encodedByPieces(room, pieces) {

@@ -218,10 +218,10 @@ await check("unknown options and wrong ones are errors", async () => {
 });
 await check("frames of one buffer", async () => {
   const stream = bytes(0, ...FRAME, 0, 0, 5, 1, 0, 1, 0, 3, 5);
-  const wanted = [{ message: MESSAGE, end: 7 }, { broken: 1, end: 11 }, { message: bytes(), end: 13 }];
+  const wanted = [{ kind: "message", message: MESSAGE, end: 7 }, { kind: "broken", decodedBytes: 1, end: 11 }, { kind: "message", message: bytes(), end: 13 }];
   equal([...cobs.frames(stream)], wanted, "they");
   equal([...cobs.frames(stream.map((byte) => byte ^ 9), { sentinel: 9 })], wanted, "with another sentinel");
-  equal([...cobs.frames(stream, { maxLength: 3 })][0], { tooLong: true, end: 7 }, "the first, for messages of 3 bytes");
+  equal([...cobs.frames(stream, { maxLength: 3 })][0], { kind: "tooLong", end: 7 }, "the first, for messages of 3 bytes");
   for (const outcome of cobs.frames(stream)) {
     equal(outcome, wanted[0], "the first alone");
     break;

@@ -24,7 +24,7 @@ await check("a stream that isn't read to its end gives its memory back at once",
     const writer = cancelled.writable.getWriter();
     const written = writer.write(chunk).catch(() => {});
     const reader = cancelled.readable.getReader();
-    equal((await reader.read()).value, { message: MESSAGE });
+    equal((await reader.read()).value, { kind: "message", message: MESSAGE });
     await reader.cancel(new Error("no more"));
     await written;
     await throws(() => writer.write(chunk), (error) => error.message === "no more", "a write after the reader's cancel");

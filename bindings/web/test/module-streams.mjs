@@ -6,7 +6,7 @@ import { check, equal, holds, throws } from "./tally.mjs";
 
 await check("a stream gives its outcomes however it is cut", async () => {
   const stream = bytes(...FRAME, 0, 0, 4, 7, 8, 9, 0, 5, 1, 0, 7, 1, 2, 3, 4, 5, 6, 0, 3, 5, 6, 0, 2);
-  const wanted = [{ message: MESSAGE }, { message: bytes(7, 8, 9) }, { broken: 1 }, { tooLong: true }, { message: bytes(5, 6) }];
+  const wanted = [{ kind: "message", message: MESSAGE }, { kind: "message", message: bytes(7, 8, 9) }, { kind: "broken", decodedBytes: 1 }, { kind: "tooLong" }, { kind: "message", message: bytes(5, 6) }];
   for (const sentinel of [0, 0x55]) {
     const changed = stream.map((byte) => byte ^ sentinel);
     for (let size = 1; size <= stream.length; size++) {
@@ -60,7 +60,7 @@ await check("a decoder says where each piece ends in a long chunk", () => {
   const wanted = [];
   const one = new plain.PlainDecoder(40);
   for (let at = 0; at < stream.length; at++) one.push(stream.subarray(at, at + 1), (outcome) => wanted.push([outcome, at + 1]));
-  holds(["message", "broken", "tooLong"].every((kind) => wanted.some(([outcome]) => kind in outcome)), "each kind of outcome is there");
+  holds(["message", "broken", "tooLong"].every((kind) => wanted.some(([outcome]) => outcome.kind === kind)), "each kind of outcome is there");
   equal(seen, wanted);
 });
 await check("many decoders at a time keep apart", () => {
@@ -73,15 +73,15 @@ await check("many decoders at a time keep apart", () => {
   for (const { decoder, message, seen } of decoders) {
     const frame = cobs.encode(message, { terminated: true });
     decoder.push(frame.subarray(half(frame.length)), (outcome) => seen.push(outcome));
-    equal(seen, [{ message }]);
+    equal(seen, [{ kind: "message", message }]);
     decoder.close();
   }
 });
 await check("after a visit that throws the next chunk is decoded as if it hadn't", () => {
   const decoder = new cobs.FrameDecoder({ maxLength: 100 });
   const seen = [];
-  const push = (...values) => decoder.push(bytes(...values), ({ message, broken }) => {
-    seen.push(message ? [...message] : broken);
+  const push = (...values) => decoder.push(bytes(...values), ({ message, decodedBytes }) => {
+    seen.push(message ? [...message] : decodedBytes);
     if (message?.[0] === 7) throw new Error("seven");
   });
   let thrown;
@@ -106,7 +106,7 @@ await check("close within a visit takes effect, and no other decoder gets the pl
     second = new cobs.FrameDecoder({ maxLength: 100 });
     second.push(bytes(5, 1, 2), () => {});
   });
-  second.push(bytes(3, 4, 0), (outcome) => equal(outcome, { message: bytes(1, 2, 3, 4) }, "of the other decoder"));
+  second.push(bytes(3, 4, 0), (outcome) => equal(outcome, { kind: "message", message: bytes(1, 2, 3, 4) }, "of the other decoder"));
   equal(seen, [[8]], "the outcomes");
   equal(first.unfinished, false, "unfinished");
   holds((() => {
@@ -128,7 +128,7 @@ await check("a decoder keeps what it has taken over calls that are longer than t
   for (const decoder of decoders) {
     const seen = [];
     decoder.push(bytes(3, 4, 0), (outcome) => seen.push(outcome));
-    equal(seen, [{ message: bytes(1, 2, 3, 4) }]);
+    equal(seen, [{ kind: "message", message: bytes(1, 2, 3, 4) }]);
     decoder.close();
   }
 });
@@ -139,12 +139,12 @@ await check("skipFirst begins after the first sentinel", async () => {
       const decoder = new cobs.FrameDecoder({ sentinel, skipFirst: true });
       const seen = [];
       for (let at = 0; at < stream.length; at += size) decoder.push(stream.subarray(at, at + size), (outcome, end) => seen.push([outcome, at + end]));
-      equal(seen, [[{ message: MESSAGE }, 11], [{ broken: 1 }, 14]], `by ${size}`);
+      equal(seen, [[{ kind: "message", message: MESSAGE }, 11], [{ kind: "broken", decodedBytes: 1 }, 14]], `by ${size}`);
       equal([decoder.skipped, decoder.unfinished], [5, true], "skipped, unfinished");
       decoder.close();
     }
     const through = new cobs.FrameDecoderStream({ sentinel, skipFirst: true });
-    equal(await all(source([stream]).pipeThrough(through)), [{ message: MESSAGE }, { broken: 1 }], "the stream");
+    equal(await all(source([stream]).pipeThrough(through)), [{ kind: "message", message: MESSAGE }, { kind: "broken", decodedBytes: 1 }], "the stream");
     equal(through.skipped, 5, "skipped by the stream");
   }
 });
@@ -156,7 +156,7 @@ await check("a stream waits until what it gave out is read", async () => {
   for (let turn = 0; turn < 100; turn++) await new Promise((done) => setImmediate(done));
   equal(count, 0, "writes done before a read");
   const reader = stream.readable.getReader();
-  for (let i = 0; i < 10; i++) equal((await reader.read()).value, { message: bytes(7 + (i % 2)) });
+  for (let i = 0; i < 10; i++) equal((await reader.read()).value, { kind: "message", message: bytes(7 + (i % 2)) });
   await Promise.all(writes);
   const last = reader.read();
   await writer.close();
@@ -194,6 +194,6 @@ await check("a decoder refuses a push within a push, and after its close", async
 });
 await check("a chunk that is no bytes breaks the stream off", () => throws(() => all(source(["text"]).pipeThrough(new cobs.FrameDecoderStream())), (error) => error instanceof TypeError, "it"));
 await check("maxLength 0 lets the empty message through alone", async () => {
-  equal(await all(source([bytes(1, 0, 2, 1, 0)]).pipeThrough(new cobs.FrameDecoderStream({ maxLength: 0 }))), [{ message: bytes() }, { tooLong: true }]);
+  equal(await all(source([bytes(1, 0, 2, 1, 0)]).pipeThrough(new cobs.FrameDecoderStream({ maxLength: 0 }))), [{ kind: "message", message: bytes() }, { kind: "tooLong" }]);
   await throws(() => new cobs.FrameDecoderStream({ maxLength: -1 }), (error) => error instanceof RangeError, "-1");
 });

@@ -44,7 +44,7 @@ async function overTerminal(there) {
     const messages = [Uint8Array.of(10, 0, 11), new Uint8Array(), Uint8Array.from({ length: 1500 }, (_, i) => i)];
     for (const message of messages) encoder.write(message);
     await until(() => seen.length === 4, "four outcomes");
-    equal([outcomes.skipped, seen[0], seen.slice(1).map(({ message }) => message)], [3, { broken: 1 }, messages], "what came");
+    equal([outcomes.skipped, seen[0], seen.slice(1).map(({ message }) => message)], [3, { kind: "broken", decodedBytes: 1 }, messages], "what came");
     encoder.end();
     reader.destroy();
     outcomes.destroy();

@@ -82,9 +82,9 @@ export class PlainDecoder {
       if (at === zero) {
         at++;
         if (!this.#isOpen) continue;
-        if (this.#isTooLong) visit({ tooLong: true });
-        else if (missing > 0) visit({ broken: written });
-        else visit({ message: buffer.slice(0, written) });
+        if (this.#isTooLong) visit({ kind: "tooLong" });
+        else if (missing > 0) visit({ kind: "broken", decodedBytes: written });
+        else visit({ kind: "message", message: buffer.slice(0, written) });
         written = missing = 0;
         this.#isOpen = this.#isTooLong = this.#joint = false;
       } else if (missing > 0) {

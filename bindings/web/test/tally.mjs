@@ -4,14 +4,23 @@ import { isDeepStrictEqual, inspect } from "node:util";
 let passed = 0;
 let failed = 0;
 
+const PATIENCE = Number(process.env.PATIENCE ?? 120) * 1000; // a loaded machine is slow
+
+/** Runs a check and counts it. A check that waits for ever fails by its name. */
 export async function check(name, act) {
+  let timer;
+  const late = new Promise((_, failed) => {
+    timer = setTimeout(() => failed(new Error(`it hasn't ended after ${PATIENCE / 200} s`)), 5 * PATIENCE);
+  });
   try {
-    await act();
+    await Promise.race([act(), late]);
     passed++;
     if (process.env.VERBOSE) console.log(`ok: ${name}`);
   } catch (error) {
     failed++;
     console.log(`FAILED: ${name}\n  ${error.stack ?? error}`);
+  } finally {
+    clearTimeout(timer);
   }
 }
 
@@ -40,8 +49,6 @@ export async function throws(act, matches, what) {
   }
   throw new Error(`${what}: nothing was thrown`);
 }
-
-const PATIENCE = Number(process.env.PATIENCE ?? 120) * 1000; // a loaded machine is slow
 
 /** Waits until `act` returns a true value, or a promise of one, and returns this value. An error of `act` is thrown only when the time is over. */
 export async function until(act, what = act) {

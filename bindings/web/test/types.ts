@@ -14,9 +14,9 @@ export async function use(port: { readable: ReadableStream<Uint8Array>; writable
   }
   const lengths: number[] = [];
   const count = (outcome: Outcome): void => {
-    if (outcome.message) lengths.push(outcome.message.length);
-    else if (outcome.tooLong) lengths.push(-1);
-    else lengths.push(outcome.broken);
+    if (outcome.kind === "message") lengths.push(outcome.message.length);
+    else if (outcome.kind === "broken") lengths.push(outcome.decodedBytes);
+    else lengths.push(-1);
   };
   for (const outcome of frames(frame, { skipFirst: true })) lengths.push(outcome.end);
   lengths.push(encodeInto(frame, new ArrayBuffer(100)));
@@ -25,7 +25,7 @@ export async function use(port: { readable: ReadableStream<Uint8Array>; writable
   lengths.push(encoder.length, encoder.finish({ terminated: true }).length);
   encoder.close();
   const decoder = new FrameDecoder({ maxLength: 100 });
-  decoder.push(frame, (outcome, end) => count(end > 0 ? outcome : { tooLong: true }));
+  decoder.push(frame, (outcome, end) => count(end > 0 ? outcome : { kind: "tooLong" }));
   decoder[Symbol.dispose]();
   const stream = new FrameDecoderStream({ maxLength: 4096 });
   const reader = port.readable.pipeThrough<Outcome>(stream).getReader();
