@@ -30,19 +30,25 @@ export function holdAddress() {
   states.set(view, text);
 }
 
-const hashOf = (view) => `#${[view, states.get(view)].filter((part) => part).join("&")}`;
+/** Returns values as they are written into an address: a space as %20, because a “+” means a plus sign. */
+const written = (values) => Object.entries(values).map(([name, value]) => `${name}=${encodeURIComponent(value)}`).join("&");
+
+/** Returns whether a value is short enough for an address. */
+export const isLinkable = (value) => encodeURIComponent(value).length <= LONGEST;
+
+/** The first view isn't named if there are values, so that the link is short. */
+const hashOf = (view) => `#${(view === VIEWS[0] && states.get(view)) || [view, states.get(view)].filter((part) => part).join("&")}`;
 
 /** Returns the address of a view with its last values and with other values, or null if they are too long for an address. */
 export function linkOf(view, others = {}) {
   if (states.get(view) === null) return null;
-  const more = new URLSearchParams(others).toString();
+  const more = written(others);
   return new URL(more === "" ? hashOf(view) : `${hashOf(view)}&${more}`, location.href).href;
 }
 
 /** Keeps the values of a view. If all of them fit, and the view is shown, they are soon written into the address. */
 export function keepState(view, values) {
-  const fits = Object.values(values).every((value) => String(value).length <= LONGEST);
-  states.set(view, fits ? new URLSearchParams(values).toString() : null);
+  states.set(view, Object.values(values).every(isLinkable) ? written(values) : null);
   writeLater(SETTLED);
 }
 

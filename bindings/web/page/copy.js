@@ -16,8 +16,13 @@ export const FORMS = {
     const length = pieces.reduce((sum, piece) => sum + piece.length, 0);
     return figure({ title: `A frame of ${length} bytes`, sentinel, show: (byte) => printHex([byte]), lines: [{ label: "frame", pieces }] });
   },
-  link: (bytes, { link }) => link,
 };
+
+/** Copies a link, and returns what to say about it. The link is null if `what` is too long for one. */
+export async function copyLink(link, what) {
+  if (link === null) return `${what} is too long for a link.`;
+  return (await toClipboard(link)) ? "The link is copied." : "The browser gives no access to the clipboard; the link is in the address bar.";
+}
 
 /** Puts text on the clipboard, and returns whether the browser allowed it. */
 export async function toClipboard(text) {

@@ -22,7 +22,7 @@ export function explainFrame(pieces, i) {
   if (role === "sentinel") return `${name}: the sentinel. ${i >= pieces.fronts[at] ? `It ends ${pieces.name(at)}.` : "No piece ends here."}`;
   if (role === "data") return `${name}: byte ${count(index)} of the message${sentinel === 0 ? ", as it is" : ""}.`;
   const here = isFirst ? "the first code" : isAfterFull ? "a code after a full block, where the message has no zero" : "a code, in place of a zero of the message";
-  if (isPast) return `${name}: ${here}. It leads past ${PAST[BADGES[pieces.kinds[at]]] ?? "the end of the piece"}.`;
+  if (isPast) return `${name}: ${here}. It leads past ${PAST[BADGES[pieces.kinds[at]]] ?? "the end of the piece"}: ${counted(value - (pieces.back(at) - i), "byte")} missing.`;
   return `${name}: ${here}. ${value === 255 ? "It marks a full block: the" : "The"} next code, or the end, is ${counted(value, "byte")} after it.`;
 }
 

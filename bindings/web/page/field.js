@@ -3,6 +3,9 @@
 
 const LIMIT = 20_000;
 
+/** Returns whether an input event of this type comes from a key, and not from a paste. */
+export const isKey = (inputType) => inputType === "insertText" || Boolean(inputType?.startsWith("deleteContent"));
+
 export class Field {
   #area;
   #held = null;
@@ -25,7 +28,7 @@ export class Field {
     this.#noteText = document.createElement("span");
     this.#note.append(this.#noteText, this.#button("Clear", () => (this.text = "")), this.#button("Edit in the field", () => this.#release()));
     area.after(this.#note);
-    area.addEventListener("input", ({ inputType }) => changed(inputType === "insertText" || inputType?.startsWith("deleteContent")));
+    area.addEventListener("input", ({ inputType }) => changed(isKey(inputType)));
     area.addEventListener("paste", (event) => this.#paste(event));
   }
 

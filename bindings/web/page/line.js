@@ -16,6 +16,7 @@ const PORT_BUFFER = 65_536; // bytes of Web Serial's buffer; its default of 255 
 const SETTINGS = ["line-baud", "line-data", "line-parity", "line-stop", "line-flow", "line-room", "line-sentinel", "line-known"];
 
 const NAMES = { baud: "line-baud", data: "line-data", parity: "line-parity", stop: "line-stop", flow: "line-flow", room: "line-room", sentinel: "line-sentinel" }; // in the address
+export const LINE_NAMES = Object.keys(NAMES);
 
 const totals = { messages: 0, broken: 0, tooLong: 0, bytes: 0, sent: 0 };
 const log = new Log();

@@ -1,12 +1,12 @@
 // The view of one message and its frame.
-import { decode, encode, frameKind, frames, maxEncodedLength } from "../jcobs.js";
+import { CobsError, decode, encode, frames, maxEncodedLength } from "../jcobs.js";
 import { codePlaces, curve } from "../draw.js";
-import { keepState, linkOf } from "./address.js";
+import { isLinkable, keepState, linkOf } from "./address.js";
 import { joined, parseBytes } from "./bytes.js";
 import { Canvas } from "./canvas.js";
-import { FORMS, toClipboard } from "./copy.js";
+import { FORMS, copyLink, toClipboard } from "./copy.js";
 import { KINDS, crcOf } from "./crc.js";
-import { Field } from "./field.js";
+import { Field, isKey } from "./field.js";
 import { parseHex, printHex } from "./hex.js";
 import { byId, complain, count, counted, once, readSentinel, statusOf } from "./inputs.js";
 import { BADGES, MESSAGE, Pieces, onlyPiece } from "./pieces.js";
@@ -32,10 +32,12 @@ let endsNote = "";
 let asKind = "text"; // the kind of the field's text
 let reading;         // the reading that the user chose for the field's bytes, if there are several
 let frameReading;    // the reading that the user chose for the bytes in the frame's field
+let written = null;  // the text of the frame's field, while it can't be read or can be read in two ways; it stays until it is replaced
 let field;
 let canvas;
 let undo;
-let isTyped = false; // whether the present change was made with a key in the field
+let frameAs = "";    // the form in which the text of the frame's field was read, while it is there
+let isTyped = false; // whether the present change was made with a key in a field
 
 const kind = () => document.querySelector('input[name="message-kind"]:checked').value;
 
@@ -104,7 +106,7 @@ function update(wanted) {
   const read = readMessage();
   const byte = readSentinel(byId("message-sentinel"), byId("message-sentinel-error"));
   if (read === null) offer(null);
-  if (read === null || byte === null) return;
+  if (read === null || byte === null) return note();
   const isSame = byte === sentinel && read.length === message.length && read.every((each, at) => each === message[at]);
   if (wanted !== undefined || !isSame) typed = wanted ?? null;
   message = read;
@@ -133,53 +135,91 @@ const digitsOf = (bytes) => printHex(bytes.subarray(0, LINKED + 1)).replaceAll("
 /** Shows the frame, or the bytes that were written in its place. */
 function showFrame() {
   const shown = typed ?? frame;
-  undo.note({ kind: asKind, text: field.text, reading, ends: byId("message-ends").value, sentinel, frame: typed ? printHex(typed) : "" }, isTyped);
-  isTyped = false;
-  keepState("message", { hex: digitsOf(message), as: kind(), sentinel: printHex([sentinel]), ...(typed && { frame: digitsOf(typed) }) });
   pieces = new Pieces(joined([shown, [sentinel]]), { maxLength: shown.length, sentinel });
   const left = shown.length - HEX_SHOWN;
   byId("message-frame").textContent = printHex(shown, 0, Math.min(shown.length, HEX_SHOWN)) + (left > 0 ? ` … and ${counted(left, "more byte")}, which are copied too` : "");
   byId("message-frame").hidden = shown.length <= EDITED;
-  const input = byId("message-frame-edit");
-  input.hidden = shown.length > EDITED;
-  if (document.activeElement !== input) input.value = shown.length > EDITED ? "" : printHex(shown);
   const fault = typed && faultOf(typed);
-  complainFrame(fault, typed?.includes(sentinel));
+  showField(shown, fault);
+  note();
   showFacts(shown, fault === null);
   say();
   canvas.show(pieces, pieces.ended !== 1 || pieces.kinds[0] !== MESSAGE);
   setSteps(typed ? null : message, frame, sentinel); // there are no steps for bytes that aren't the message's frame
 }
 
-/** Returns what is wrong with bytes that aren't a frame, or null for the longer frame of a message. */
-function faultOf(bytes) {
-  if (frameKind(bytes, { sentinel }) !== "notAFrame") return null;
-  if (bytes.length === 0) return "A frame has at least one byte.";
-  if (bytes.includes(sentinel)) return `These are several pieces, with the sentinel ${printHex([sentinel])} between them. The message is still that of the last valid frame.`;
-  return "The frame breaks off inside a block. The message is still that of the last valid frame.";
+/** Keeps the state of the view for Undo, and, if everything can be read, for the address. */
+function note() {
+  undo.note({ kind: asKind, text: field.text, reading, ends: byId("message-ends").value, sentinel, frame: typed ? printHex(typed) : "", written, frameReading: written === null ? undefined : frameReading }, isTyped);
+  isTyped = false;
+  const isUnread = ["message-input", "message-sentinel"].some((id) => byId(id).hasAttribute("aria-invalid")) || !isFrameRead();
+  byId("message").classList.toggle("stale", isUnread);
+  if (isUnread) return;
+  const text = kind() === "text" && new TextDecoder("utf-8", { ignoreBOM: true }).decode(message.subarray(0, LINKED + 1));
+  const own = text && isLinkable(text) ? { text } : { hex: digitsOf(message) };
+  keepState("message", { ...own, ...(sentinel !== 0 && { sentinel: printHex([sentinel]) }), ...(typed && { frame: digitsOf(typed) }) });
 }
 
-function complainFrame(error, isStream = false) {
-  complain(byId("message-frame-edit"), error, byId("message-frame-error"));
-  byId("message-typed").hidden = error === null;
-  byId("message-frame-stream").hidden = !isStream;
-}
+const isFrameRead = () => written === null || parseBytes(written, frameReading).bytes !== undefined;
 
-/** Takes bytes in place of the frame. If the bytes are a frame, its message is put into the field above. */
-function takeFrame(bytes) {
-  const kindOfFrame = frameKind(bytes, { sentinel });
-  if (kindOfFrame !== "notAFrame") setBytes(decode(bytes, { sentinel }));
-  update(kindOfFrame === "canonical" ? null : bytes);
-  byId("message-copied").textContent = kindOfFrame === "longer" ? "The message has two frames, and this is the longer one: encoders leave out its last 01." : "";
-}
-
-/** Takes the bytes of the frame's field: a frame, a frame with sentinels around it (as it came over a line), or several frames. */
-function editFrame() {
-  const { bytes, error, as, other } = parseBytes(byId("message-frame-edit").value, frameReading);
-  if (bytes) takeFrame(onlyPiece(bytes, sentinel) ?? bytes);
-  else complainFrame(error);
+/** Shows the bytes in the frame's field, or the text that the user wrote there and what is wrong with it. */
+function showField(shown, fault) {
+  const input = byId("message-frame-edit");
+  const { error, other } = written === null ? {} : parseBytes(written, frameReading);
+  input.hidden = shown.length > EDITED && written === null;
+  if (document.activeElement !== input) input.value = written ?? (shown.length > EDITED ? "" : printHex(shown));
+  const pieceCount = typed?.includes(sentinel) && pieces.ended;
+  complain(input, error ? `${error} The drawing below still shows the last valid frame.` : fault, byId("message-frame-error"));
+  byId("message-frame-pieces").textContent = pieceCount && !error ? `These are ${counted(pieceCount, "piece")}, with the sentinel ${printHex([sentinel])} between them. Message still has what it had before.` : "";
+  byId("message-typed").hidden = !error && !fault && !pieceCount;
+  byId("message-frame-stream").hidden = !pieceCount || error !== undefined;
   showOther(byId("message-frame-other"), other);
-  byId("message-frame-read").textContent = other && bytes ? `Read as ${as}.` : "";
+  byId("message-frame-read").textContent = error || frameAs === "" ? "" : `Read as ${frameAs}.`;
+}
+
+/** Returns the message of a frame, or null if the bytes aren't one frame. */
+function messageOf(bytes) {
+  if (bytes.includes(sentinel)) return null;
+  try {
+    return decode(bytes, { sentinel });
+  } catch (error) {
+    if (error instanceof CobsError) return null;
+    throw error;
+  }
+}
+
+/** Returns what is wrong with a piece that isn't a frame, or null for the longer frame of a message, and for several pieces. */
+function faultOf(bytes) {
+  if (bytes.length === 0) return "A frame has at least one byte.";
+  if (bytes.includes(sentinel) || messageOf(bytes) !== null) return null;
+  const at = codePlaces(bytes, sentinel).at(-1);
+  const [announced, left] = [(bytes[at] ^ sentinel) - 1, bytes.length - at - 1];
+  return `The frame breaks off inside a block: the code ${printHex([bytes[at]])} (byte ${count(at)}) announces ${counted(announced, "byte")}, and ${left === 0 ? "none follows" : `only ${count(left)} follow${left === 1 ? "s" : ""}`}. Message still has what it had before.`;
+}
+
+/**
+ * Takes bytes in place of the frame. If the bytes are a frame, its message is put into the field above. `text` is the text of the frame's
+ * field, if it stays there, and `as` the form in which the text was read.
+ */
+function takeFrame(bytes, { text = null, as = "", isByKey = false } = {}) {
+  const found = messageOf(bytes);
+  if (found) setBytes(found);
+  const own = found && encode(found, { sentinel });
+  [written, frameAs, isTyped] = [text, as, isByKey];
+  update(own?.length === bytes.length ? null : bytes);
+  byId("message-copied").textContent = found && own.length < bytes.length ? "The message has two frames, and this is the longer one: encoders leave out its last 01." : "";
+}
+
+/** Takes the text of the frame's field: a frame, a frame with sentinels around it (as it came over a line), or several frames. */
+function editFrame(isByKey = false) {
+  const text = byId("message-frame-edit").value;
+  const { bytes, as, other } = parseBytes(text, frameReading);
+  byId("message-copied").textContent = "";
+  if (bytes) takeFrame(onlyPiece(bytes, sentinel) ?? bytes, { text: other ? text : null, as, isByKey });
+  else {
+    [written, frameAs, isTyped] = [text, "", isByKey];
+    showFrame();
+  }
 }
 
 /** Shows the button for the other reading of bytes, if there is one. */
@@ -189,16 +229,10 @@ function showOther(button, other) {
   button.textContent = `Read as ${other}`;
 }
 
-function forgetFrameReading() {
-  frameReading = undefined;
-  byId("message-frame-read").textContent = "";
-  byId("message-frame-other").hidden = true;
-}
-
 /** Shows the message's frame again, instead of the bytes that were written in its place. */
 function mend() {
-  typed = null;
-  byId("message-frame-edit").value = "";
+  typed = written = null;
+  frameAs = "";
   showFrame();
   byId("message-drawing").focus();
 }
@@ -224,7 +258,7 @@ function splice(at, index, removed, bytes) {
 function offer(bytes) {
   const isHex = kind() === "hex";
   const isOffered = isHex && bytes?.length > 1 && bytes.length <= OFFERED;
-  const isFrame = isOffered && frameKind(onlyPiece(bytes, sentinel) ?? bytes, { sentinel }) !== "notAFrame";
+  const isFrame = isOffered && messageOf(onlyPiece(bytes, sentinel) ?? bytes) !== null;
   const isStream = isOffered && !isFrame && bytes.at(-1) === sentinel && isAllMessages();
   const form = isHex ? undefined : formOfText();
   byId("message-offer").hidden = !isFrame && !isStream && bytes !== null && form === undefined;
@@ -251,24 +285,33 @@ function isAllMessages() {
   return count > 0;
 }
 
-/** Shows the contents of a link: bytes or text, how they are shown, and the sentinel. */
+/** Shows the contents of a link: a message as text or bytes, a frame, or both, and the sentinel. */
 export function setMessage(values) {
+  const [text, digits, given] = ["text", "hex", "frame"].map((name) => values.get(name));
   byId("message-sentinel").value = values.get("sentinel") ?? "00";
-  const { bytes } = values.has("hex") ? parseHex(values.get("hex")) : { bytes: values.has("text") && bytesOfText(values.get("text"), "LF") };
-  if (!bytes && values.has("hex")) setInput("hex", values.get("hex"));
-  else if (bytes && ((values.has("hex") && values.get("as") !== "text") || !setText(bytes))) setInput("hex", printHex(bytes));
-  const { bytes: written } = parseHex(values.get("frame") ?? "?");
-  update(written ?? null);
+  if (digits !== null) setInput("hex", parseHex(digits).bytes ? printHex(parseHex(digits).bytes) : digits);
+  else if (text !== null) setText(bytesOfText(text, "LF")) || setInput("hex", printHex(bytesOfText(text, "LF")));
+  else if (given !== null) setInput("hex", "");
+  written = null;
+  frameReading = undefined;
+  update(null);
+  const { bytes } = parseHex(given ?? "?");
+  if (bytes) takeFrame(onlyPiece(bytes, sentinel) ?? bytes);
+  else if (given !== null) {
+    byId("message-frame-edit").value = given;
+    editFrame();
+  }
   if (values.has("at")) canvas.open(Number(values.get("at")));
 }
 
 /** Shows an earlier state of the view. */
-function restore({ kind: wanted, text, reading: chosen, ends, sentinel: byte, frame: written }) {
-  byId("message-sentinel").value = printHex([byte]);
-  byId("message-ends").value = ends;
-  setInput(wanted, text);
-  reading = chosen;
-  update(written === "" ? null : parseHex(written).bytes);
+function restore(state) {
+  byId("message-sentinel").value = printHex([state.sentinel]);
+  byId("message-ends").value = state.ends;
+  setInput(state.kind, state.text);
+  ({ reading, written, frameReading } = state);
+  frameAs = (written !== null && parseBytes(written, frameReading).as) || "";
+  update(state.frame === "" ? null : parseHex(state.frame).bytes);
 }
 
 /** Puts bytes into the field as text, and returns whether this is possible. */
@@ -302,16 +345,21 @@ async function copy() {
   const form = byId("message-form").value;
   const shown = typed ?? frame;
   const bytes = byId("message-ended").checked ? joined([shown, [sentinel]]) : shown;
-  const text = bytes.length === 0 && form !== "link" ? "" : FORMS[form](bytes, { sentinel, link: linkOf("message", canvas.active > 0 ? { at: canvas.active } : {}), pieces: Array.from({ length: pieces.ended }, (_, at) => pieces.piece(at)) });
+  const text = bytes.length === 0 ? "" : FORMS[form](bytes, { sentinel, pieces: Array.from({ length: pieces.ended }, (_, at) => pieces.piece(at)) });
   const said = byId("message-copied");
-  if (text === "") said.textContent = "There is nothing to copy.";
-  else if (text === null) said.textContent = form === "link" ? "The message is too long for a link." : "The frame is too long for a picture.";
-  else if (await toClipboard(text)) said.textContent = form === "link" ? "The link is copied." : `${counted(bytes.length, "byte")} copied.`;
+  if (!isFrameRead()) said.textContent = "Nothing is copied, because the text in Frame can't be read.";
+  else if (text === "") said.textContent = "There is nothing to copy.";
+  else if (text === null) said.textContent = "The frame is too long for a picture.";
+  else if (await toClipboard(text)) said.textContent = `${counted(bytes.length, "byte")} copied.`;
   else {
     if (!byId("message-frame-edit").hidden) byId("message-frame-edit").select();
     else getSelection().selectAllChildren(byId("message-frame"));
     said.textContent = "The browser gives no access to the clipboard. The shown bytes are selected: copy them with the keyboard.";
   }
+}
+
+async function share() {
+  byId("message-copied").textContent = await copyLink(linkOf("message", canvas.active > 0 ? { at: canvas.active } : {}), "The message");
 }
 
 function setInput(wanted, text) {
@@ -339,6 +387,8 @@ export function startMessage() {
   const soon = once(() => update());
   const asked = (isByKey = false) => {
     isTyped = isByKey === true;
+    written = null;
+    frameAs = "";
     byId("message-copied").textContent = "";
     soon();
   };
@@ -369,13 +419,13 @@ export function startMessage() {
   byId("message-ends").addEventListener("change", asked);
   byId("message-sentinel").addEventListener("input", asked);
   byId("message-copy").addEventListener("click", copy);
-  byId("message-frame-edit").addEventListener("input", editFrame);
+  byId("message-share").addEventListener("click", share);
+  byId("message-frame-edit").addEventListener("input", ({ inputType }) => editFrame(isKey(inputType)));
   // a press on these buttons leaves the focus in the field: if the field lost the focus, its new text would move the buttons away
-  for (const id of ["message-frame-other", "message-frame-stream", "message-back"]) byId(id).addEventListener("mousedown", (event) => event.preventDefault());
-  byId("message-frame-edit").addEventListener("paste", forgetFrameReading);
-  byId("message-frame-edit").addEventListener("blur", ({ relatedTarget }) => {
-    if (relatedTarget?.id === "message-frame-other") return; // this button reads the field again
-    forgetFrameReading();
+  for (const id of ["message-frame-stream", "message-back"]) byId(id).addEventListener("mousedown", (event) => event.preventDefault());
+  byId("message-frame-edit").addEventListener("paste", () => (frameReading = undefined));
+  byId("message-frame-edit").addEventListener("blur", () => {
+    if (written === null) [frameReading, frameAs] = [undefined, ""];
     showFrame();
   });
   byId("message-back").addEventListener("click", mend);

@@ -1,9 +1,12 @@
 // Starts the page: loads the module, and then shows one of three views at a time.
 import { load } from "../jcobs.js";
 import { VIEWS, holdAddress, isNewAddress, nameView, readAddress, takeAddress } from "./address.js";
-import { setLine, startLine } from "./line.js";
+import { LINE_NAMES, setLine, startLine } from "./line.js";
 import { setMessage, startMessage } from "./message.js";
 import { setStream, startStream } from "./stream.js";
+
+/** The names of the values that a link to a view may have. */
+const LINKED = { message: ["text", "hex", "frame", "sentinel", "at"], stream: ["hex", "sentinel", "room", "damage", "at"], line: LINE_NAMES };
 
 const tab = (view) => document.getElementById(`tab-${view}`);
 
@@ -37,6 +40,8 @@ function startTabs() {
   const take = () => {
     const { view, values, text } = takeAddress();
     show(view);
+    const unknown = [...values.keys()].filter((name) => !LINKED[view].includes(name));
+    complain(unknown.length > 0 ? `The page doesn't know “${unknown.join("”, “")}” of this link, “#${location.hash.slice(1, 100)}”. It knows ${LINKED[view].join(", ")}.` : "");
     if (text !== "") holdAddress();
     if (view === "line") setLine(values);
     else if (text !== "") ({ message: setMessage, stream: setStream })[view](values);
@@ -73,10 +78,11 @@ function startLinks() {
   for (const part of document.querySelectorAll(".proofs")) part.hidden = false;
 }
 
+/** Says what is wrong with the page or its link; "" if nothing is wrong. */
 function complain(text) {
   const place = document.getElementById("unsupported");
   place.textContent = text;
-  place.hidden = false;
+  place.hidden = text === "";
 }
 
 /** Loads the module, and returns whether it was loaded. */

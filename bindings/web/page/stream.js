@@ -3,7 +3,7 @@ import { encode } from "../jcobs.js";
 import { keepState, linkOf } from "./address.js";
 import { joined, parseBytes } from "./bytes.js";
 import { Canvas } from "./canvas.js";
-import { FORMS, toClipboard } from "./copy.js";
+import { FORMS, copyLink, toClipboard } from "./copy.js";
 import { Field } from "./field.js";
 import { printHex, printText } from "./hex.js";
 import { byId, complain, count, counted, once, readRoom, readSentinel, statusOf } from "./inputs.js";
@@ -40,7 +40,7 @@ function readStream(sentinel) {
   byId("stream-other").textContent = `Read as ${other}`;
   byId("stream-other").dataset.as = other ?? "";
   readAs = said ? ` ${said}` : as && as !== "hex" ? ` Read as ${as}.` : "";
-  field.complain(error ? `${error} The pieces below are of the last good input.` : null, byId("stream-error"));
+  field.complain(error ? `${error} The drawing below still shows the last valid input.` : null, byId("stream-error"));
   return bytes ?? null;
 }
 
@@ -49,7 +49,12 @@ function update() {
   const maxLength = readRoom(byId("stream-room"), byId("stream-room-error"));
   const sentinel = readSentinel(byId("stream-sentinel"), byId("stream-sentinel-error"));
   const bytes = readStream(sentinel ?? 0);
-  if (bytes === null || maxLength === null || sentinel === null) return false;
+  const isUnread = bytes === null || maxLength === null || sentinel === null;
+  byId("stream").classList.toggle("stale", isUnread);
+  if (isUnread) {
+    note();
+    return false;
+  }
   const isSame = bytes.length === original.length && bytes.every((byte, at) => byte === original[at]);
   if (!isSame) {
     damage = new Map();
@@ -80,6 +85,12 @@ function restore({ text, reading: chosen, file, sentinel, room, damage: changes 
   if (update()) setDamage(changes);
 }
 
+/** Keeps the state of the view for Undo. */
+function note() {
+  undo?.note({ text: field.text, reading, file: fromFile, sentinel: before.sentinel, room: before.maxLength, damage: damageText(hurt.length) }, isTyped);
+  isTyped = false;
+}
+
 function applyDamage() {
   stream = original;
   if (damage.size > 0) {
@@ -89,8 +100,7 @@ function applyDamage() {
   hurt = [...damage.keys()].sort((a, b) => a - b);
   pieces = damage.size > 0 ? new Pieces(stream, before) : before;
   byId("stream-mend").disabled = damage.size === 0;
-  undo?.note({ text: field.text, reading, file: fromFile, sentinel: before.sentinel, room: before.maxLength, damage: damageText(hurt.length) }, isTyped);
-  isTyped = false;
+  note();
   keepState("stream", {
     hex: printHex(original.subarray(0, LINKED + 1)).replaceAll(" ", ""),
     sentinel: printHex([before.sentinel]),
@@ -140,14 +150,14 @@ function forgetFile() {
 
 /** Copies the stream as it is shown, with its damage. */
 async function copy() {
-  const form = byId("stream-form").value;
-  const isLink = form === "link";
-  const link = linkOf("stream", canvas.active > 0 ? { at: canvas.active } : {});
-  const isLong = isLink && link === null;
-  const isEmpty = !isLink && stream.length === 0;
-  const isCopied = !isLong && !isEmpty && (await toClipboard(FORMS[form](stream, { name: "stream", link })));
-  const refused = `The browser gives no access to the clipboard${isLink ? "; the link is in the address bar" : ""}.`;
-  byId("stream-copied").textContent = isEmpty ? "There is nothing to copy." : isLong ? `The stream${damage.size > 0 ? " with its damage" : ""} is too long for a link.` : !isCopied ? refused : isLink ? "The link is copied." : `${counted(stream.length, "byte")} copied.`;
+  const said = byId("stream-copied");
+  if (stream.length === 0) said.textContent = "There is nothing to copy.";
+  else if (await toClipboard(FORMS[byId("stream-form").value](stream, { name: "stream" }))) said.textContent = `${counted(stream.length, "byte")} copied.`;
+  else said.textContent = "The browser gives no access to the clipboard.";
+}
+
+async function share() {
+  byId("stream-copied").textContent = await copyLink(linkOf("stream", canvas.active > 0 ? { at: canvas.active } : {}), `The stream${damage.size > 0 ? " with its damage" : ""}`);
 }
 
 const status = statusOf("stream", 250);
@@ -283,6 +293,7 @@ export function startStream() {
   byId("stream-example").addEventListener("click", () => (field.text = example(before.sentinel)));
   byId("stream-file").addEventListener("change", (event) => takeFile(event.target.files[0]));
   byId("stream-copy").addEventListener("click", copy);
+  byId("stream-share").addEventListener("click", share);
   byId("stream-mend").addEventListener("click", () => {
     damage.clear();
     applyDamage();

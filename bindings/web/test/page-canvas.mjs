@@ -68,7 +68,7 @@ for (const [name, options] of [["a phone", { width: 360, isPhone: true }], ["a s
     const said = (words) => page.until(`document.getElementById("stream-status").textContent === "${whole}${words}"`);
     await fillStream(page, STREAM);
     await said("");
-    await page.click("#stream-copy");
+    await page.click("#stream-share");
     await page.until('document.getElementById("stream-copied").textContent === "The link is copied."');
     const place = await point(page, "#stream-byte-1");
     await explained(page, "stream", "Byte 1, 0a: byte 0 of the message");
@@ -191,7 +191,7 @@ await check("canvas: a frame that is none is shown as it is, and the way back", 
   await page.type("09");
   await page.until('document.querySelector("#message-drawing .badge").textContent === "broken"');
   equal(await page.value('document.querySelectorAll("#message-drawing .arc.bad").length'), 1, "broken arcs");
-  holds((await page.text("#message-frame-error")).startsWith("The frame breaks off inside a block."), "what is said");
+  holds((await page.text("#message-frame-error")).startsWith("The frame breaks off inside a block: the code 09 (byte 3) announces 8 bytes, and only 1 follows."), "what is said");
   equal(await page.value('document.getElementById("message-input").value'), "0a 0b 00 0c", "the message");
   equal(await page.value('document.getElementById("message-frame-edit").value'), "03 0a 0b 09 0c", "the field of the frame");
   await point(page, "#message-over-4");
@@ -206,7 +206,7 @@ await check("canvas: a frame that is none is shown as it is, and the way back", 
   await page.click("#message-byte-2");
   await page.type("00"); // a sentinel: two pieces
   await page.until('document.querySelectorAll("#message-drawing .badge").length === 2');
-  holds((await page.text("#message-frame-error")).startsWith("These are several pieces, with the sentinel 00 between them"), "what is said");
+  holds((await page.text("#message-frame-pieces")).startsWith("These are 2 pieces, with the sentinel 00 between them"), "what is said");
   await page.fill("#message-input", "07");
   await isFrame(page, "02 07");
   equal(await page.value("document.getElementById('message-frame-error').hidden"), true, "no complaint");

@@ -8,8 +8,8 @@ import { equal, holds } from "./tally.mjs";
 import { BY_HAND, READY, STREAM, address, browser, check, chooseHex, chooseText, fillStream, hex, on, summary } from "./page-setup.mjs";
 
 const copied = async (page, view) => {
-  await page.value(`document.getElementById("${view}-copied").textContent = "", document.getElementById("${view}-form").value = "link"`);
-  await page.click(`#${view}-copy`);
+  await page.value(`document.getElementById("${view}-copied").textContent = ""`);
+  await page.click(`#${view}-share`);
   await page.until(`document.getElementById("${view}-copied").textContent === "The link is copied."`);
   return page.value("navigator.clipboard.readText()");
 };
@@ -135,9 +135,9 @@ await check("first: Frame takes what came over a line: with sentinels, as decima
   await isRead("0a 0b 0c 0d 0e 0f 10 11 12 13 14");
   equal([await page.text("#message-frame-read"), await page.text("#message-frame-other")], ["Read as decimal numbers.", "Read as hex"], "of a frame with two readings");
   await page.click("#message-frame-other");
-  await page.until('document.getElementById("message-frame-error").textContent.startsWith("The frame breaks off")');
+  await page.until('document.getElementById("message-frame-error").textContent === "The frame breaks off inside a block: the code 12 (byte 0) announces 17 bytes, and only 11 follow. Message still has what it had before."');
   await paste("03 0a 0b 02 0c 00 02 07 00");
-  await page.until('document.getElementById("message-frame-error").textContent.startsWith("These are several pieces")');
+  await page.until('document.getElementById("message-frame-pieces").textContent.startsWith("These are 2 pieces")');
   const [field, said] = await page.value('["message-frame-edit", "message-typed"].map((id) => document.getElementById(id).getBoundingClientRect()).map(({ top, bottom }) => [top, bottom])');
   holds(said[0] - field[1] >= 0 && said[0] - field[1] < 40, `the complaint is right under the field: ${said[0] - field[1]} pixels`);
   await page.click("#message-frame-stream");
@@ -241,6 +241,91 @@ await check("first: a link opens at a byte, in Message and in Stream", async () 
   });
 });
 
+/** What the fields of Message hold, which of them are wrong, and what is drawn. */
+const shownIn = (page) => page.value(`[document.getElementById("message-input").value, document.getElementById("message-frame-edit").value, [...document.querySelectorAll("#message-drawing .badge")].map((badge) => badge.textContent).join()]`);
+
+await check("first: a link with a frame opens it, and its message", async () => {
+  for (const [hash, wanted, words] of [
+    ["#frame=030a0b020c", ["0a 0b 00 0c", "03 0a 0b 02 0c", ""], ""],
+    ["#frame=00030a0b020c00", ["0a 0b 00 0c", "03 0a 0b 02 0c", ""], ""],
+    ["#frame=0b10101010101010101010", ["10 10 10 10 10 10 10 10 10 10", "0b 10 10 10 10 10 10 10 10 10 10", ""], ""],
+    ["#hex=0a0b000c&frame=0268", ["68", "02 68", ""], ""],
+    ["#text=hi&frame=050a0b", ["hi", "05 0a 0b", "broken"], "the code 05 (byte 0) announces 4 bytes, and only 2 follow."],
+    ["#frame=050a0b", ["", "05 0a 0b", "broken"], "the code 05 (byte 0) announces 4 bytes, and only 2 follow."],
+    ["#frame=xyz", ["", "xyz", ""], "isn't a hexadecimal digit"],
+  ]) {
+    const page = await browser.open(`${address}${hash}`);
+    await page.until(READY);
+    await page.drawn();
+    equal(await shownIn(page), wanted, hash);
+    const said = await page.text("#message-frame-error");
+    holds(words === "" ? said === "" : said.includes(words), `${hash}: ${said}`);
+    await page.close();
+  }
+});
+
+await check("first: a link with what the page doesn't know says so", async () => {
+  for (const [hash, words] of [["#base64=AAEC", "The page doesn't know “base64” of this link, “#base64=AAEC”."], ["#foo", "“foo”"], ["#STREAM&hex=00", "“STREAM”"], ["#stream&text=a", "“text”"], ["#line&hex=00", "“hex”"]]) {
+    const page = await browser.open(`${address}${hash}`);
+    await page.until(READY);
+    holds((await page.text("#unsupported")).includes(words) && !(await page.value('document.getElementById("unsupported").hidden')), `${hash}: ${await page.text("#unsupported")}`);
+    await page.value('location.hash = "#hex=07"');
+    await page.until('document.getElementById("message-input").value === "07" && document.getElementById("unsupported").hidden');
+    await page.close();
+  }
+});
+
+await check("first: what Frame can't read stays there, is read by the keyboard alone, and Undo brings it back", () => on("message", async (page) => {
+  const paste = async (text) => {
+    await page.click("#message-frame-edit");
+    await page.selectAll();
+    await page.paste(text);
+  };
+  const unread = "3 10 11 2 12 0";
+  await paste(unread);
+  await page.until('document.getElementById("message-frame-error").textContent.includes("The drawing below still shows the last valid frame.")');
+  holds(await page.value('document.getElementById("message").classList.contains("stale")'), "the drawing is dimmed");
+  await page.click("#message-copy");
+  await page.until('document.getElementById("message-copied").textContent.startsWith("Nothing is copied")');
+  equal(await shownIn(page), ["0a 0b 00 0c", unread, ""], "after the focus has left the field");
+  await page.click("#message-frame-edit");
+  for (let i = 0; (await page.value("document.activeElement.id")) !== "message-frame-other"; i++) {
+    holds(i < 5, "Tab reaches the other reading");
+    await page.press("Tab");
+  }
+  await page.press("Enter");
+  await page.until('document.getElementById("message-frame-read").textContent === "Read as decimal numbers."');
+  await page.click(".idea");
+  equal(await shownIn(page), ["0a 0b 00 0c", "03 0a 0b 02 0c", ""], "what was read");
+  await page.click('[data-zeros="8"]');
+  await page.until('document.getElementById("message-frame-edit").value.startsWith("01 01")');
+  await page.click("#message-undo");
+  await page.until('document.getElementById("message-frame-edit").value === "03 0a 0b 02 0c"');
+  await page.click("#message-undo");
+  await page.until(`document.getElementById("message-frame-edit").value === "${unread}" && document.getElementById("message-frame-error").textContent.includes("The drawing below still shows the last valid frame.")`);
+  await page.click("#message-undo");
+  await page.until('document.getElementById("message-frame-edit").value === "03 0a 0b 02 0c" && document.getElementById("message-frame-error").hidden && !document.getElementById("message").classList.contains("stale")');
+}));
+
+await check("first: what Message and Stream can't read stays there too, and Undo brings it back", async () => {
+  for (const [view, unread] of [["message", "05 0g"], ["stream", "05 0g"]]) await on(view, async (page) => {
+    const input = `document.getElementById("${view}-input").value`;
+    const before = await page.value(input);
+    await page.click(`#${view}-input`);
+    await page.selectAll();
+    await page.paste(unread);
+    await page.until(`document.getElementById("${view}-error").textContent.includes("The drawing below still shows the last valid input.") && document.getElementById("${view}").classList.contains("stale")`);
+    await page.click(".idea");
+    equal(await page.value(input), unread, "the text");
+    await page.click(view === "stream" ? "#stream-example" : '[data-zeros="8"]');
+    await page.until(`!document.getElementById("${view}").classList.contains("stale")`);
+    for (const wanted of [unread, before]) {
+      await page.click(`#${view}-undo`);
+      await page.until(`${input} === ${JSON.stringify(wanted)} && document.getElementById("${view}").classList.contains("stale") === ${wanted === unread}`);
+    }
+  });
+});
+
 await check("first: links that are written by hand: text, hex, and a sentinel alone", async () => {
   for (const [hash, text, kind, frame] of [
     ["#text=Hello%00World", "Hello\u2205World", "text", HELLO],
@@ -266,8 +351,8 @@ await check("first: a faulty link stays in the address until what it leads to is
   for (const [hash, mend, wanted] of [
     ["#stream&hex=030a0b020c00&room=abc", ["#stream-room", "100"], "#stream&hex=030a0b020c00&sentinel=00&room=100"],
     ["#stream&hex=03zz&sentinel=00&room=64", ["#stream-input", "02 07 00"], "#stream&hex=020700&sentinel=00&room=64"],
-    ["#message&hex=zz0a0b", ["#message-input", "0a 0b"], "#message&hex=0a0b&as=hex&sentinel=00"],
-    ["#message&hex=0a0b&as=hex&sentinel=zz", ["#message-sentinel", "01"], "#message&hex=0a0b&as=hex&sentinel=01"],
+    ["#hex=zz0a0b", ["#message-input", "0a 0b"], "#hex=0a0b"],
+    ["#hex=0a0b&sentinel=zz", ["#message-sentinel", "01"], "#hex=0a0b&sentinel=01"],
   ]) {
     const page = await browser.open(`${address}${hash}`, { before: BY_HAND });
     await page.until(READY);
@@ -287,12 +372,12 @@ await check("first: a link is taken even if the page is about to write its own a
 
 await check("first: what is too long for a link isn't said to be copied", () => on(`stream&hex=${"020700".repeat(600)}&sentinel=00&room=64`, async (page) => {
   await summary(page, "600 pieces");
-  await page.value('document.getElementById("stream-form").value = "link", document.getElementById("stream-damage").value = "ff"');
+  await page.value('document.getElementById("stream-damage").value = "ff"');
   const damages = Array.from({ length: 600 }, (_, i) => `${3 * i + 1}:ff`).join();
   await page.value(`location.hash = "#stream&hex=${"020700".repeat(600)}&sentinel=00&room=64&damage=${damages}"`);
   await summary(page, "600 bytes damaged");
   await page.value('navigator.clipboard.writeText("nothing")');
-  await page.click("#stream-copy");
+  await page.click("#stream-share");
   await page.until('document.getElementById("stream-copied").textContent === "The stream with its damage is too long for a link."');
   equal(await page.value("navigator.clipboard.readText()"), "nothing", "the clipboard");
 }));
@@ -312,7 +397,7 @@ await check("first: damage is in the link of Stream, up to the last byte", () =>
 
 await check("first: with ?embed the page is a drawing with a link to the whole of it", async () => {
   for (const view of ["message", "stream"]) {
-    const hash = `#${view}&hex=030a0b020c00&${view === "message" ? "as=hex&sentinel=00" : "sentinel=00&room=64"}`;
+    const hash = `#${view}&hex=030a0b020c00&${view === "message" ? "sentinel=00" : "sentinel=00&room=64"}`;
     const page = await browser.open(`${address}?embed${hash}`, { width: 600, height: 300 });
     await page.until(READY);
     await page.until(`document.querySelector("#${view} .bytes svg")`);

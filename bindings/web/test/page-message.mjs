@@ -167,12 +167,11 @@ await check("message: a link gives the same message, and text becomes bytes and 
   await chooseHex(page);
   await page.fill("#message-input", "68 c3 a9");
   await page.fill("#message-sentinel", "aa");
-  await page.until('location.hash === "#message&hex=68c3a9&as=hex&sentinel=aa"');
+  await page.until('location.hash === "#hex=68c3a9&sentinel=aa"');
   await chooseText(page);
   await page.until('document.getElementById("message-input").value === "hé"');
-  await page.until('location.hash === "#message&hex=68c3a9&as=text&sentinel=aa"');
-  await page.value('document.getElementById("message-form").value = "link"');
-  await page.click("#message-copy");
+  await page.until('location.hash === "#text=h%C3%A9&sentinel=aa"');
+  await page.click("#message-share");
   await page.until('document.getElementById("message-copied").textContent === "The link is copied."');
   const link = await page.value("navigator.clipboard.readText()");
   const frame = await page.text("#message-frame");
@@ -203,7 +202,7 @@ await check("message: a frame that is edited changes its message", () => on("mes
     equal(await page.value('document.getElementById("message-input").value'), "0a 0b 00 0d", "the message stays");
     await page.until('document.querySelector("#message-drawing .badge").textContent === "broken" && document.querySelectorAll("#message-drawing .arc.bad").length === 1');
     await page.fill("#message-frame-edit", `a0 ${sentinel} a1`);
-    await page.until('document.getElementById("message-frame-error").textContent.includes("several pieces")');
+    await page.until('document.getElementById("message-frame-pieces").textContent.startsWith("These are 2 pieces") && document.getElementById("message-frame-error").hidden');
     await page.until('document.querySelectorAll("#message-drawing .badge").length === 2');
     await page.fill("#message-frame-edit", "0");
     await page.until('document.getElementById("message-frame-error").textContent.includes("one digit")');
@@ -216,8 +215,8 @@ await check("message: a frame that is edited changes its message", () => on("mes
 
 await check("message: the link of a frame that was written by hand leads to it", () => on("message", async (page) => {
   const link = async () => {
-    await page.value('document.getElementById("message-copied").textContent = "", document.getElementById("message-form").value = "link"');
-    await page.click("#message-copy");
+    await page.value('document.getElementById("message-copied").textContent = ""');
+    await page.click("#message-share");
     await page.until('document.getElementById("message-copied").textContent === "The link is copied."');
     return page.value("navigator.clipboard.readText()");
   };
@@ -348,7 +347,7 @@ await check("message: the line ends of pasted text are kept, whatever its length
   await chooseText(page);
   await page.until('document.getElementById("message-input").value === "a\\nb"');
   await isFrame("a\r\nb");
-  await page.until('location.hash === "#message&hex=610d0a62&as=text&sentinel=00"');
+  await page.until('location.hash === "#text=a%0D%0Ab"');
   const other = await browser.open(await page.value("location.href"));
   await other.until(READY);
   await other.until('document.getElementById("message-input").value === "a\\nb" && document.getElementById("message-ends").value === "CRLF"');

@@ -19,7 +19,7 @@ export const hex = (bytes) => Buffer.from(bytes).toString("hex").replace(/..(?=.
 export const number = (text) => Number(text.replace(/[^0-9]/g, ""));
 
 /** The message with which most tests of Message begin. */
-const SAMPLE = "&hex=0a0b000c&as=hex&sentinel=00";
+const SAMPLE = "&hex=0a0b000c";
 
 /** Opens a page on a view, and closes it when `act` is done. The page must have written nothing to its console. */
 export async function on(view, act, options = {}) {

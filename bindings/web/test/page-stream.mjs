@@ -143,7 +143,7 @@ await check("stream: a link gives the same stream with its damage", () => on("st
   await summary(page, "1 too long");
   await page.click("#stream-byte-8");
   await summary(page, "1 byte damaged");
-  await page.click("#stream-copy");
+  await page.click("#stream-share");
   await page.until('document.getElementById("stream-copied").textContent === "The link is copied."');
   const [rows, said] = [await outcomes(page), await page.text("#stream-status")];
   const other = await browser.open(await page.value("navigator.clipboard.readText()"));
@@ -217,9 +217,9 @@ await check("stream: arcs lead from code to code, and each byte is explained", (
       await page.press("ArrowRight");
     }
     await page.press("End");
-    await page.until('document.getElementById("stream-explained").textContent.includes("It leads past the bytes of the piece so far.")');
+    await page.until('document.getElementById("stream-explained").textContent.includes("It leads past the bytes of the piece so far: 1 byte missing.")');
     for (let i = 0; i < 11; i++) await page.press("ArrowLeft");
-    await page.until('document.getElementById("stream-explained").textContent.includes("It leads past the end of the piece, which is broken.")');
+    await page.until('document.getElementById("stream-explained").textContent.includes("It leads past the end of the piece, which is broken: 3 bytes missing.")');
   }
 }, TALL));
 

@@ -86,7 +86,7 @@ try {
     await until(() => value("document.querySelector('#stream-pieces .badge').textContent === 'altered message'"));
   });
   await check("webkit: after 100 changes of the address within 10 s the page shows the right frame", async () => {
-    await go("#message&hex=0a0b000c&as=text&sentinel=00");
+    await go("#text=%0A%0B%00%0C");
     await until(() => value("document.documentElement.dataset.ready === 'yes'"));
     await value("document.querySelector('input[name=message-kind][value=text]').click()");
     const spent = await value("(() => { for (let i = 0; i < 200; i++) try { history.replaceState(null, '', location.href); } catch { return i; } return -1; })()");
@@ -97,7 +97,7 @@ try {
     equal(await value("document.getElementById('message-frame-length').textContent"), "21 bytes", "its length");
   });
   await check("webkit: bytes of the canvas are explained and written", async () => {
-    await go("#message&hex=0a0b000c&as=hex&sentinel=00");
+    await go("#hex=0a0b000c");
     await until(() => value("document.querySelectorAll('#message-drawing .arc').length === 2"));
     await point("message-byte-3");
     await until(() => value("document.getElementById('message-explained').textContent.startsWith('Byte 3, 02: a code, in place of a zero')"));
