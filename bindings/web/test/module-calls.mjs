@@ -80,6 +80,9 @@ await check("loadSync loads before it returns, and load after it changes nothing
   decoder.push(bytes(...FRAME, 0), ({ message }) => seen.push(message));
   decoder.close();
   equal([seen, both.encode(MESSAGE)], [[MESSAGE], FRAME], "with one decoder from before a load ended");
+  const unused = pages(); // of the instance that `load` made in vain
+  new both.FrameDecoder({ maxLength: 1 << 23 }).close();
+  equal(pages(), unused, "pages of an instance that came too late");
 }));
 await check("a load that fails after loadSync has loaded the module changes nothing", async () => {
   const own = await fresh();
@@ -240,7 +243,7 @@ await check("encodeInto writes the frame alone", async () => {
   equal(room, bytes(...[...FRAME, 0].map((byte) => byte ^ 7), 0xee, 0xee), "the bytes");
   for (const [options, length] of [[{}, 4], [{ terminated: true }, 5]]) {
     const short = new Uint8Array(length).fill(0xee);
-    await throws(() => cobs.encodeInto(MESSAGE, short, options), (error) => error instanceof RangeError, "too short");
+    await throws(() => cobs.encodeInto(MESSAGE, short, options), (error) => error instanceof RangeError && error.message === `the frame doesn't fit the ${length} bytes of dest`, "too short");
     equal(short, new Uint8Array(length).fill(0xee), "the bytes after it");
   }
 });

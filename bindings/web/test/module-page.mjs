@@ -2,8 +2,9 @@
 import { curve } from "../draw.js";
 import * as cobs from "../jcobs.js";
 import { FORMS } from "../page/copy.js";
-import { readLog, streamOf, writeLog } from "../page/log.js";
+import { Log, readLog, streamOf, writeLog } from "../page/log.js";
 import { decoderLines, decoderSteps, encoderLines, encoderSteps } from "../page/steps.js";
+import { Undo } from "../page/undo.js";
 import { FRAME, MESSAGE, bytes, randomBytes } from "./module-setup.mjs";
 import { check, equal, holds } from "./tally.mjs";
 
@@ -81,4 +82,22 @@ await check("the page writes and reads logs, and gives the stream that came in",
   equal(streamOf(entries, 0), { bytes: bytes(...FRAME, 0, 1, 0, 5, 1, 0), said: "Read as a log: 3 rows received, and 1 without bytes." }, "the stream");
   equal(streamOf(entries.slice(1, 2), 0x55).bytes, bytes(2 ^ 0x55, 7 ^ 0x55, 0x55), "of what was sent alone");
   for (const wrong of ["nonsense", "2026-11-23T10:00:00.125Z in 0g", "2026-11-23T10:00:00.125Z by 00", "now in 00"]) holds(readLog(wrong).error?.startsWith("Line 1"), wrong);
+});
+await check("the log keeps 1,000 rows, or those of the last 16 MiB", () => {
+  const log = new Log();
+  const add = (length) => log.add({ way: "in", kind: "message", message: new Uint8Array(length) });
+  equal(Array.from({ length: 1001 }, () => add(1)).at(-1), 1, "how many the last of 1,001 rows drops");
+  equal([log.entries.length, log.entries[0].number], [1000, 2], "the rows");
+  log.clear();
+  for (let i = 0; i < 16; i++) equal(add(1 << 20), 0, "none is dropped");
+  equal([add(1), log.entries.length, log.entries[0].number], [1, 16, 2], "one byte more");
+  equal([add(17 << 20), log.entries.length], [16, 1], "a longer one stays alone");
+});
+await check("Undo takes back 100 changes", () => {
+  const button = Object.assign(new EventTarget(), { disabled: true });
+  const shown = [];
+  const undo = new Undo(new EventTarget(), button, ({ text }) => shown.push(text));
+  for (let text = 0; text <= 120; text++) undo.note({ text }, false);
+  for (let i = 0; i < 110; i++) button.dispatchEvent(new Event("click"));
+  equal([shown.length, shown[0], shown.at(-1), button.disabled], [100, 119, 20, true], "what was shown again");
 });
