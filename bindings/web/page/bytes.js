@@ -1,12 +1,16 @@
 // Reads bytes in the forms in which developers have them: hex digits, dumps, arrays and strings of programs, decimal numbers, base64.
-// The whole text must have one form: a part that doesn't belong to the form is an error, and is never left out.
+// The whole text must have one form: a part that doesn't belong to the form is an error, and is left out only if the user wants it.
 import { parseColumns } from "./columns.js";
 import { parseCan, parseDump } from "./dumps.js";
-import { parseHex } from "./hex.js";
+import { textsIn } from "./found.js";
+import { parseHex, printHex } from "./hex.js";
 import { parseBase64 } from "./base64.js";
 import { parseLiteral } from "./literals.js";
 import { choice } from "./readings.js";
 
+const SEARCHED = 60_000; // characters of the longest text in which bytes are looked for
+const PREVIEWED = 6;
+const FENCE = /^\s*```[\w+-]*\n([\s\S]*?)\n?```\s*$|^\s*`([^`]+)`\s*$/; // of Markdown
 const INVISIBLE = /[\u200b-\u200d\u2060\ufeff]/g;
 
 /** Returns the bytes of several lists, one after another. */
@@ -21,6 +25,7 @@ export function joined(parts) {
 }
 
 const NODE_BUFFER = /^<(?:Buffer\b)?([^<>]*)>$/;
+const NODE_OBJECT = /^\s*\{\s*type:\s*['"]Buffer['"],\s*data:\s*(\[[\d\s,]*\])\s*\}\s*$/;
 const NODE_ARRAY_BUFFER = /^(?:Shared)?ArrayBuffer \{\s*\[Uint8Contents\]: <([^<>]*)>,?\s*byteLength: (\d+),?\s*\}$/;
 
 /**
@@ -30,6 +35,24 @@ const NODE_ARRAY_BUFFER = /^(?:Shared)?ArrayBuffer \{\s*\[Uint8Contents\]: <([^<
  */
 export function parseBytes(text, wanted) {
   const clean = text.replace(INVISIBLE, "").replace(/\r\n?/g, "\n");
+  const [, block, inline] = clean.match(FENCE) ?? [];
+  const whole = block ?? inline ?? clean;
+  const found = parseWhole(whole, wanted);
+  if (found.bytes || found.other || whole.length > SEARCHED) return found;
+  const bytes = bytesIn(whole);
+  return bytes ? choice([found, { bytes, as: `the bytes in it (${bytes.length}: ${printHex(bytes, 0, Math.min(bytes.length, PREVIEWED))}${bytes.length > PREVIEWED ? " …" : ""})` }], wanted) : found;
+}
+
+/** Returns the bytes in a text that also has other words, or undefined. */
+function bytesIn(text) {
+  for (const parts of textsIn(text)) {
+    const read = parts.map((part) => parseWhole(part));
+    if (read.every(({ bytes, as }) => bytes?.length > 0 && as !== "base64" && as !== "a string")) return joined(read.map(({ bytes }) => bytes));
+  }
+  return undefined;
+}
+
+function parseWhole(clean, wanted) {
   for (const parse of [parseBuffer, parseColumns, parseDump, parseCan, parseLiteral, parseWords, parseNumbers, parsePlainHex, parseBase64]) {
     const found = parse(clean, wanted);
     if (found) return found;
@@ -51,6 +74,8 @@ function parseBuffer(text) {
     if (bytes && length !== undefined && Number(length) !== bytes.length) return { error: `The length is given as ${length}, but there are ${bytes.length} bytes.` };
     return bytes && { bytes, as: "a buffer" };
   }
+  const [, list] = text.match(NODE_OBJECT) ?? [];
+  if (list !== undefined) return parseLiteral(list);
   if (!/^\s*\{\s*"/.test(text)) return undefined;
   let value;
   try {

@@ -1,4 +1,4 @@
-// Reads bytes that od prints in columns after an offset: as octal numbers (-b), decimal numbers (-t u1, -t d1) or characters (-c).
+// Reads bytes that od and hexdump print in columns after an offset: as octal numbers (-b), decimal numbers (-t u1, -t d1) or characters (-c).
 // Also reads bytes that the command x of gdb prints as decimal numbers.
 import { unrolled } from "./dumps.js";
 import { choice } from "./readings.js";
@@ -21,23 +21,24 @@ const GDB = /^0x([0-9a-f]+)(?:[ \t]*<[^>]*>)?:((?:\t(?:0|-?[1-9]\d{0,2}))+)$/i;
 export function parseColumns(text, wanted) {
   const lines = text.split("\n").filter((line) => line.trim() !== "");
   if (lines.length > 0 && lines.every((line) => GDB.test(line))) return parseGdb(lines);
-  if (lines.length === 0 || !/^\d{7} /.test(lines[0]) || !lines.every((line) => line === "*" || /^\d{7,}( |$)/.test(line))) return undefined;
-  const readings = COLUMNS.flatMap((column) => readingsOf(lines, column));
+  if (lines.length === 0 || !/^\d{7} /.test(lines[0]) || !lines.every((line) => line === "*" || /^[\da-f]{7,}( |$)/.test(line))) return undefined;
+  const trimmed = lines.map((line) => line.trimEnd()); // hexdump fills its lines with spaces
+  const readings = COLUMNS.flatMap((column) => [lines, trimmed].map((each) => readingsOf(each, column)).find((found) => found.length > 0) ?? []);
   return readings.length > 0 ? choice(readings, wanted) : undefined;
 }
 
-/** Returns the bytes of the lines if all their columns have one form, and the offsets, octal or decimal, fit. */
+/** Returns the bytes of the lines if all their columns have one form, and the offsets, octal, decimal or hexadecimal, fit. */
 function readingsOf(lines, { as, cell, width, byteOf }) {
   const rows = [];
   for (const line of lines) {
-    const digits = line.match(/^\d*/)[0];
+    const digits = line.match(/^[\da-f]*/)[0];
     const columns = line.slice(digits.length);
     const padded = columns.padEnd(Math.ceil(columns.length / width) * width); // a space at the end of the line may be missing
     const groups = padded.match(cell) ?? [];
     if (line !== "*" && groups.join("") !== padded) return [];
     rows.push(line === "*" ? { isStar: true } : { digits, groups });
   }
-  const bytes = [8, 10].map((base) => unrolled(rows, base, (groups) => groups.map(byteOf))).find((found) => found?.length > 0);
+  const bytes = [8, 10, 16].map((base) => unrolled(rows, base, (groups) => groups.map(byteOf))).find((found) => found?.length > 0);
   return bytes ? [{ bytes: Uint8Array.from(bytes), as }] : [];
 }
 

@@ -18,9 +18,16 @@ function rowOf(line) {
   return { digits, colon, gap, groups, isPiped: piped !== null, isCut: colon === "" && /^[0-9a-f]{2}( [0-9a-f]{2})*$/i.test(others[0] ?? "") };
 }
 
+/** Returns a line of hexdump -x or -d, with wide gaps and words of 16 bits, as hexdump prints it without an option. */
+function narrow(line) {
+  if (/^[0-9a-f]{7}(?: {4}[0-9a-f]{4})+$/.test(line)) return line.replace(/ {4}/g, " ");
+  if (/^[0-9a-f]{7}(?: {3}[0-6]\d{4})+$/.test(line)) return line.replace(/ {3}(\d{5})/g, (all, digits) => ` ${Number(digits).toString(16).padStart(4, "0")}`);
+  return line;
+}
+
 /** Reads lines that begin with offsets. Returns undefined for another text. */
 export function parseDump(text) {
-  const lines = text.split("\n").map((line) => line.trimEnd()).filter((line) => line !== "");
+  const lines = text.split("\n").map((line) => narrow(line.trimEnd())).filter((line) => line !== "");
   const first = lines.length > 0 ? rowOf(lines[0]) : null;
   if (!first || first.isStar) return undefined;
   const rows = lines.map(rowOf);

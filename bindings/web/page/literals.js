@@ -27,6 +27,7 @@ const SIGN = /'(?:\\[\s\S]|[^'\\])+'\s*/y; // the character that gdb prints afte
 const STRING = /(u8|br|rb|[bruL]?)("(?:\\[\s\S]|[^"\\])*"|'(?:\\[\s\S]|[^'\\])*')\s*/iy;
 const AS = /as\s+(\w+)\s*/y;
 const REPEATS = /(?:<repeats (\d+) times>|;\s*(\d+)(?=\s*\]))\s*/y; // in the form of gdb, and in that of Rust
+const PLUS = /\+\s*(?=[bru]{0,2}["'])/iy;
 const CODING = /,\s*['"](\w+)['"]\s*/y;
 const ARRAY = /['"](\w)['"]\s*,\s*/y; // the type code before the list of a Python array
 const DTYPE = /,\s*dtype\s*=\s*['"]?(?:np\.|numpy\.)?(\w+)['"]?\s*/y;
@@ -39,14 +40,29 @@ export function parseLiteral(text, wanted) {
   const bare = text.trim();
   const isUnquoted = !/["'`]/.test(bare.replace(/\\["']/g, "")) && /^[^[\](){}]*\\(x[0-9a-f]{2}|[0-7])/i.test(bare);
   if (!isUnquoted && !/[[({"']/.test(bare)) return undefined;
-  const digits = bare.match(/^[[({]\s*([0-9a-f]{2}(?:\s+[0-9a-f]{2})*)\s*[\])}]$/i)?.[1] ?? "";
-  if (/[a-f]/i.test(digits)) return { ...parseHex(digits), as: "hex" };
+  const listed = parseListed(bare, wanted);
+  if (listed) return listed;
   try {
     return isUnquoted ? insideOf(bare) : new Reader(bare).whole(wanted);
   } catch (error) {
     if (error instanceof Unreadable) return { error: error.message, as: error.as };
     throw error;
   }
+}
+
+/**
+ * Reads lists whose brackets have only numbers: pairs of hex digits, with commas as Rust prints them or with spaces, or decimal numbers
+ * with spaces, as Go and numpy print them.
+ */
+function parseListed(text, wanted) {
+  const [, inside] = text.match(/^[[({]\s*([0-9a-f]+(?:\s+[0-9a-f]+)*)\s*[\])}]$/i) ?? text.match(/^\[\s*([0-9a-f]{2}(?:,\s*[0-9a-f]{2})*)\s*,?\s*\]$/i) ?? [];
+  if (inside === undefined) return undefined;
+  const words = inside.split(/[\s,]+/);
+  const hex = words.every((word) => word.length === 2) && { ...parseHex(inside), as: "hex" };
+  if (hex && words.some((word) => /[a-f]|^0/i.test(word))) return hex;
+  if (inside.includes(",") || words.length < 2 || !words.every((word) => /^(?:0|[1-9]\d{0,2})$/.test(word) && Number(word) < 256)) return undefined;
+  const decimal = { bytes: Uint8Array.from(words, Number), as: "decimal numbers" };
+  return choice(hex ? [decimal, hex] : [decimal], wanted);
 }
 
 /** Returns the bytes of a string's contents, without its quotes. */
@@ -66,7 +82,7 @@ class Reader {
   #isOfGdb;          // whether the text is from gdb, which puts commas between strings that repeat
 
   constructor(text) {
-    this.#text = text.replaceAll("'static", "").replace(COMMENT, (all, string) => string ?? " ");
+    this.#text = text.replaceAll("'static", "").replace(/" *\\\n\s*"/g, '" "').replace(/, buffer: ArrayBuffer\(\d+\), byteLength: [^[\]]*\]$/, "]").replace(COMMENT, (all, string) => string ?? " ");
     this.#isOfGdb = this.#text.includes("<repeats ");
     this.#take(SPACE);
   }
@@ -90,7 +106,7 @@ class Reader {
   }
 
   whole(wanted) {
-    if (/\.\.\.|…/.test(this.#text.replace(/"[^"]*"|'[^']*'/g, ""))) throw new Unreadable("Bytes are left out at the “...”.");
+    if (/(?:^|[\s,\d])(?:\.\.\.|…)(?=[\s,\])}>]|$)/.test(this.#text.replace(/"[^"]*"|'[^']*'/g, ""))) throw new Unreadable("Bytes are left out at the “...”.");
     const front = (this.#take(FRONT)[1] ?? "").slice(-LONGEST_FRONT);
     this.#demandBytes(typesIn(front));
     if (this.#stringsHere()) {
@@ -126,6 +142,7 @@ class Reader {
       this.#kinds.add(content.includes("\\") ? "escapes" : "string");
       for (const byte of unescaped(content, { isBytes: /b/i.test(prefix), isRaw: /r/i.test(prefix) })) this.#bytes.push(byte);
       this.#repeated(from);
+      this.#take(PLUS);
       if (this.#depth === 0 && this.#isOfGdb) this.#take(COMMA);
     }
     this.#isJoined ||= this.#strings.length > before + 1;
@@ -174,6 +191,7 @@ class Reader {
     if (number.length > 0) this.#bytes.push(byteOf(number, this.#kinds));
     else if (/[-\d,]/.test(this.#text[this.#at])) throw new Unreadable(faultOf(this.#text.slice(this.#at).match(/^[^\s,;()[\]{}]*/)[0]));
     else if (!this.#stringsHere()) this.#value();
+    else if (/^0x[0-9a-f]{1,2}$/i.test(this.#strings.at(-1).content)) this.#bytes.splice(from, Infinity, parseInt(this.#strings.at(-1).content, 16));
     else if (!isGroup && this.#bytes.length - from !== 1 && !/b/i.test(this.#strings.at(-1).prefix)) throw new Unreadable(`“${this.#strings.at(-1).content.slice(0, 40)}” isn't a byte.`);
     this.#demandBytes(cast);
     if (",)]}".includes(this.#text[this.#at])) return; // most items of long lists end here
@@ -194,7 +212,7 @@ class Reader {
       this.#demandBytes(type);
       return;
     }
-    const isAny = /(^|\.)of$|^array$/.test(name);
+    const isAny = /(^|\.)(of|u?byteArrayOf|listOf)$|^array$/.test(name);
     if (!isAny && /^\d+\s*\)/.test(this.#text.slice(this.#at, this.#at + 20))) throw new Unreadable(`${name}(${this.#rest().slice(1, -1)}) returns bytes that this text doesn't have.`);
     const count = this.#items("(");
     if (!isAny && count > 1) throw new Unreadable(`${name}() with ${count} arguments can't be read.`);

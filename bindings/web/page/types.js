@@ -6,7 +6,7 @@ const CHARS = /(?:^|[^(\w])(char\s*\[\d*\])/; // an array of Java or C#, with th
 
 /** Returns why the elements of the type that a text names aren't bytes, or undefined if they are bytes or no type is named. */
 export function wideFault(text) {
-  const wide = text.match(CHARS)?.[1] ?? (BYTES.test(text) ? undefined : text.match(WIDE)?.[0]);
+  const wide = text.replace(/\b(?:const|(?:un)?signed)\s+/g, "").match(CHARS)?.[1] ?? (BYTES.test(text) ? undefined : text.match(WIDE)?.[0]);
   return wide && `The numbers of “${wide}” have more than 8 bits, and the order of their bytes isn't known: write each byte separately.`;
 }
 

@@ -42,10 +42,10 @@ const COMMON = `Array ArrayBuffer Blob Boolean CustomEvent DataView Date Error F
   parseInt setInterval clearInterval setTimeout clearTimeout requestAnimationFrame getSelection
   abort abs add after append arrayBuffer assign cancel catch ceil charCodeAt checkValidity clear click closest codePointAt compile contains createElement createObjectURL decode
   delete encode encodeURIComponent enqueue entries error every exec exports fill filter find findIndex flatMap floor focus forEach from fromCharCode fromCodePoint fromEntries get getAttribute getBoundingClientRect
-  getData getElementById getMilliseconds getReader getTime getWriter has hasAttribute includes indexOf insertBefore isArray isInteger isNaN isSafeInteger isView join keys map match matches max min now observe of
+  getData getElementById getMilliseconds getReader getTime getWriter has hasAttribute includes indexOf insertBefore isArray isInteger isNaN isSafeInteger isView join keys lastIndexOf map match matches max min now observe of
   padEnd padStart parse pop postMessage preventDefault push pushState querySelector querySelectorAll read reduce releaseLock remove removeAttribute removeEventListener repeat replace replaceState
   resolve reverse revokeObjectURL round scrollIntoView select selectAllChildren set setAttribute setProperty shift slice some sort splice split startsWith endsWith subarray test text toISOString toLocaleString
-  toLowerCase toString toTimeString toUpperCase toggle trim trimEnd validate values write writeText close call apply concat then reject`;
+  toLowerCase toString toTimeString toUpperCase toggle trim trimEnd trimStart validate values write writeText close call apply concat then reject`;
 
 /** Methods of this code's own objects, of the module and of Node. */
 const OWN = `about act back changedFrom codes complain countOf decoder encoder changed fault finish frameKind give goTo grow isAll isIdle isIn isNoisy isThere item left loop maxLength

@@ -307,6 +307,26 @@ await check("first: what Frame can't read stays there, is read by the keyboard a
   await page.until('document.getElementById("message-frame-edit").value === "03 0a 0b 02 0c" && document.getElementById("message-frame-error").hidden && !document.getElementById("message").classList.contains("stale")');
 }));
 
+await check("first: the bytes in a line of a log are offered in each field, and taken by the keyboard", async () => {
+  const line = "[10:00:00.123] RX: 03 0A 0B 02 0C 00";
+  for (const [view, field, button] of [["message", "message-input", "message-other"], ["message", "message-frame-edit", "message-frame-other"], ["stream", "stream-input", "stream-other"]]) await on(view, async (page) => {
+    await page.click(`#${field}`);
+    await page.selectAll();
+    await page.paste(line);
+    await page.until(`document.getElementById("${button}").getClientRects().length > 0 && document.getElementById("${button}").textContent === "Read as the bytes in it (6: 03 0a 0b 02 0c 00)"`);
+    await page.click(".idea");
+    equal(await page.value(`document.getElementById("${field}").value`), line, "the text");
+    await page.click(`#${field}`);
+    for (let i = 0; (await page.value("document.activeElement.id")) !== button; i++) {
+      holds(i < 6, "Tab reaches the button");
+      await page.press("Tab");
+    }
+    await page.press("Enter");
+    if (view === "stream") await summary(page, "6 bytes, 1 piece: 1 message.");
+    else await frameIs(page, field === "message-input" ? "06 03 0a 0b 02 0c 01" : "03 0a 0b 02 0c");
+  });
+});
+
 await check("first: what Message and Stream can't read stays there too, and Undo brings it back", async () => {
   for (const [view, unread] of [["message", "05 0g"], ["stream", "05 0g"]]) await on(view, async (page) => {
     const input = `document.getElementById("${view}-input").value`;
