@@ -8,7 +8,7 @@
 // This file copies bytes into the module's memory, and copies results out of the module's memory. With `skipFirst`, this file finds
 // the sentinel after which decoding begins. Apart from that, only the module decides which bytes a frame has, and which messages a
 // stream has.
-import { BROKEN, CHUNK_SIZE, CobsError, KINDS, NEAR, OK, STATE_SIZE, TOO_SMALL, bytesOf, loaded, machineFor } from "./machine.js";
+import { BROKEN, CHUNK_SIZE, CobsError, NEAR, OK, STATE_SIZE, TOO_SMALL, bytesOf, loaded, machineFor } from "./machine.js";
 
 export { CobsError, isSupported, load, loadSync } from "./machine.js";
 
@@ -40,7 +40,6 @@ function checked(options) {
 const DECODING = { sentinel: 0 };
 const ENCODING = { sentinel: 0, terminated: false };
 const STREAM = { maxLength: 65536, sentinel: 0, skipFirst: false };
-const PIECEWISE = { maxLength: 65536, sentinel: 0 };
 
 /** Returns the length of the longest frame that a message of `length` bytes can have, not counting sentinels. */
 export function maxEncodedLength(length) {
@@ -99,23 +98,10 @@ export function decode(frame, options) {
   throw new CobsError("empty", "there is no frame to decode: there are no bytes, or only sentinels");
 }
 
-/**
- * Returns "canonical" if the bytes are a frame that `encode` returns, "longer" if they are such a frame followed by a needless
- * block, which has only its code (01 for the sentinel 0), and "notAFrame" if they aren't a frame.
- */
-export function frameKind(frame, options) {
-  const bytes = bytesOf(frame);
-  const { sentinel } = optionsOf(options, DECODING);
-  const machine = machineFor(bytes.length);
-  machine.write(bytes, machine.scratchAt, sentinel);
-  return KINDS[machine.frameKind(bytes.length)];
-}
-
 const abandoned = typeof FinalizationRegistry === "function" ? new FinalizationRegistry(({ arena, place }) => arena.give(place)) : null;
 
 /**
- * A place in the shared memory for a state, a chunk and a buffer. The owner of the place is a decoder or an encoder. `close` frees
- * the place. The place is also freed if its owner is garbage-collected.
+ * A place in the shared memory for a state, a chunk and a buffer. The owner of the place is a decoder. `close` frees the place. The place is also freed if its owner is garbage-collected.
  */
 class Held {
   #place;
@@ -262,67 +248,6 @@ function* outcomesOf(bytes, options) {
     }
   } finally {
     decoder.close();
-  }
-}
-
-/** Encodes messages that come in chunks. A message has up to `maxLength` bytes. */
-export class FrameEncoder {
-  #held;
-  #encoder;
-  #maxLength;
-  #sentinel;
-  #taken = 0;
-
-  constructor(options) {
-    const { maxLength, sentinel } = optionsOf(options, PIECEWISE);
-    this.#maxLength = maxLength;
-    this.#sentinel = sentinel;
-    const room = maxEncodedLength(maxLength) + 1;
-    this.#held = new Held(this, room);
-    this.#encoder = this.#held.arena.machine.encoder(this.#held.state, this.#held.buffer, room);
-  }
-
-  /** The length of the message so far, in bytes. */
-  get length() {
-    return this.#taken;
-  }
-
-  /** Adds bytes to the message. If the message would become longer than `maxLength`, throws a RangeError and adds no byte. */
-  push(data) {
-    this.#demandOpen();
-    const bytes = bytesOf(data);
-    if (bytes.length > this.#maxLength - this.#taken) throw new RangeError(`the message is longer than maxLength=${this.#maxLength}`);
-    const { arena, chunk } = this.#held;
-    for (let at = 0; at < bytes.length; at += CHUNK_SIZE) {
-      const some = bytes.subarray(at, at + CHUNK_SIZE);
-      arena.machine.write(some, chunk);
-      this.#encoder.push(chunk, some.length);
-    }
-    this.#taken += bytes.length;
-  }
-
-  /** Ends the message and returns its frame, followed by a sentinel if `terminated` is true. The next `push` begins another message. */
-  finish(options) {
-    this.#demandOpen();
-    const { terminated } = optionsOf(options, { terminated: false });
-    const { length } = this.#encoder.finish();
-    this.#taken = 0;
-    const frame = this.#held.arena.machine.read(this.#held.buffer, length + (terminated ? 1 : 0), this.#sentinel);
-    if (terminated) frame[length] = this.#sentinel;
-    return frame;
-  }
-
-  #demandOpen() {
-    if (!this.#held.isOpen) throw new Error("the encoder is closed");
-  }
-
-  /** Frees the encoder's memory. */
-  close() {
-    if (this.#held.isOpen) this.#held.close();
-  }
-
-  [DISPOSE]() {
-    this.close();
   }
 }
 

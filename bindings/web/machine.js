@@ -1,22 +1,21 @@
 // Loads the proved module, calls the module's functions, and keeps track of the free places in the module's memory. Only this file
 // uses the names that the module exports. jcobs.js has the calls that users make.
 
-// enum jcobs_status and enum jcobs_kind of jcobs.h
+// enum jcobs_status of jcobs.h
 export const OK = 0;
 export const TOO_SMALL = 2;
 export const BROKEN = 3;
-export const KINDS = ["notAFrame", "canonical", "longer"];
 
 const WASM_PAGE = 65536;
 const ANSWER_SIZE = 64;              // bytes for a jcobs_answer, at the front of the free memory
 const SCRATCH_SIZE = 1 << 22;        // bytes of memory for a call; a call that needs more gets a separate memory
-export const STATE_SIZE = 64;        // bytes for a jcobs_decoder or a jcobs_encoder
+export const STATE_SIZE = 64;        // bytes for a jcobs_decoder
 export const CHUNK_SIZE = 1 << 14;          // how many bytes of a stream are copied into the module at a time
 export const NEAR = 1024;             // a call is short if it gets at most this many bytes; short calls write their results to a fixed place
 const LONG = 4096;                   // a result of at least this many bytes is copied without `slice`
 const MEMORY_LIMIT = 2 ** 32;        // the first address that doesn't fit in the module's 32 bits
 
-/** The names that cobs.wasm exports. */
+/** The names that cobs.wasm exports. The tests make the calls that this file doesn't make. */
 const CALLS = [
   "memory",
   "__heap_base",
@@ -121,10 +120,6 @@ class Machine {
     return this.#answer();
   }
 
-  frameKind(length) {
-    return this.#calls.jcobs_frame_kind(this.scratchAt, length);
-  }
-
   /** Returns a decoder in the initial state, with its state and its buffer at these addresses. */
   decoder(state, buffer, room) {
     const [calls, answerAt] = [this.#calls, this.answerAt];
@@ -135,22 +130,6 @@ class Machine {
         return this.#answer();
       },
       isIdle: () => calls.jcobs_decoder_is_idle(state) !== 0,
-    };
-  }
-
-  /** Returns an encoder in the initial state, with its state and its buffer at these addresses. */
-  encoder(state, buffer, room) {
-    const [calls, answerAt] = [this.#calls, this.answerAt];
-    calls.jcobs_encoder_reset(state);
-    return {
-      push: (at, length) => {
-        calls.jcobs_encoder_push(answerAt, state, buffer, room, at, length);
-        return this.#answer();
-      },
-      finish: () => {
-        calls.jcobs_encoder_finish(answerAt, state, buffer, room);
-        return this.#answer();
-      },
     };
   }
 

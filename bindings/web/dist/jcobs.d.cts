@@ -5,7 +5,7 @@
  * - a TypeError if an argument that must be `Bytes` has another type or a detached buffer, if the options aren't an object, or if
  *   you pass an option that the call doesn't have;
  * - a RangeError if a `sentinel`, a `maxLength` or a length isn't an allowed number, or if the call needs more memory than the
- *   engine gives. All open decoders and encoders together can have at most 4 GiB;
+ *   engine gives. All open decoders together can have at most 4 GiB;
  * - an Error if the module isn't loaded.
  */
 
@@ -31,6 +31,9 @@ declare global {
 /** Bytes that are passed to a call: an ArrayBuffer, a SharedArrayBuffer, or any view of one of these. */
 export type Bytes = ArrayBuffer | SharedArrayBuffer | ArrayBufferView;
 
+/** The bytes of a result, in a new ArrayBuffer: `Uint8Array<ArrayBuffer>` with TypeScript 5.7 or later, `Uint8Array` before. */
+export type NewBytes = ReturnType<Uint8ArrayConstructor["of"]>;
+
 /**
  * A source from which `load` can read the module: an address, a response, the bytes of cobs.wasm, or the compiled module. A
  * relative address is relative to the page; in a worker and in Node, an address must be absolute. (For the file jcobs.js of the
@@ -48,15 +51,12 @@ export interface EncodeOptions extends SentinelOptions {
   terminated?: boolean;
 }
 
-export interface PieceOptions extends SentinelOptions {
+export interface DecoderOptions extends SentinelOptions {
   /**
    * The length of the longest message that is accepted, in bytes: an integer, 0 or more. Default 65536. For `frames`, the default
    * is the number of bytes that are passed.
    */
   maxLength?: number;
-}
-
-export interface DecoderOptions extends PieceOptions {
   /**
    * Whether to skip all bytes up to and including the first sentinel. Use this option if the stream may begin inside a frame.
    * Default false.
@@ -70,7 +70,7 @@ export interface DecoderOptions extends PieceOptions {
  */
 export type Outcome =
   /** The piece is a frame, and `message` is its message. */
-  | { kind: "message"; message: Uint8Array }
+  | { kind: "message"; message: NewBytes }
   /**
    * The piece breaks off inside a block. `decodedBytes` is the number of bytes that the piece decodes to before it breaks off,
    * which is at most `maxLength`.
@@ -125,7 +125,7 @@ export function loadSync(source?: Bytes | WebAssembly.Module): void;
 export function maxEncodedLength(length: number): number;
 
 /** Returns the frame of a message, followed by a sentinel if `terminated` is true. */
-export function encode(message: Bytes, options?: EncodeOptions): Uint8Array;
+export function encode(message: Bytes, options?: EncodeOptions): NewBytes;
 
 /**
  * Writes the frame of a message to the front of `dest`, followed by a sentinel if `terminated` is true. Returns how many bytes the
@@ -141,17 +141,7 @@ export function encodeInto(message: Bytes, dest: Bytes, options?: EncodeOptions)
  *
  * @throws CobsError "empty" or "broken"
  */
-export function decode(frame: Bytes, options?: SentinelOptions): Uint8Array;
-
-/**
- * Returns one of these words:
- * - "canonical" if the bytes are a frame that `encode` returns;
- * - "longer" if the bytes are such a frame, followed by a needless block that has only its code, which is 01 for the sentinel 0;
- * - "notAFrame" if the bytes aren't a frame.
- *
- * Pass the bytes without the sentinels before and after them.
- */
-export function frameKind(frame: Bytes, options?: SentinelOptions): "canonical" | "longer" | "notAFrame";
+export function decode(frame: Bytes, options?: SentinelOptions): NewBytes;
 
 /**
  * Returns an iterator over the outcomes of the pieces of `bytes`. The property `end` of an outcome is the index in `bytes` of the
@@ -192,36 +182,6 @@ export class FrameDecoder {
   [Symbol.dispose](): void;
 }
 
-/** Encodes messages that come in chunks. */
-export class FrameEncoder {
-  constructor(options?: PieceOptions);
-  /**
-   * Adds bytes to the message.
-   *
-   * @throws RangeError if the message would become longer than `maxLength`; in this case no byte is added
-   * @throws Error if the encoder is closed
-   */
-  push(chunk: Bytes): void;
-  /** The length of the message so far, in bytes. */
-  get length(): number;
-  /**
-   * Ends the message and returns its frame, followed by a sentinel if `terminated` is true. The next `push` begins another message.
-   *
-   * @throws Error if the encoder is closed
-   */
-  finish(options?: { terminated?: boolean }): Uint8Array;
-  /**
-   * Frees the encoder's memory. Without this call, garbage collection frees the memory at some later time. A second call does
-   * nothing.
-   */
-  close(): void;
-  /**
-   * Calls `close`. At the end of a block, a `using` declaration calls this method. The method exists only if the engine had
-   * `Symbol.dispose` when this package was loaded.
-   */
-  [Symbol.dispose](): void;
-}
-
 /**
  * Turns a stream of bytes into a stream of outcomes. Bytes after the last sentinel of the stream have no outcome. A chunk that
  * isn't `Bytes` makes both ends fail with a TypeError.
@@ -245,6 +205,6 @@ export class FrameDecoderStream {
  */
 export class FrameEncoderStream {
   constructor(options?: SentinelOptions);
-  readonly readable: ReadableStream<Uint8Array>;
+  readonly readable: ReadableStream<NewBytes>;
   readonly writable: WritableStream<Bytes>;
 }

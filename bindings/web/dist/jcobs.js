@@ -2,22 +2,21 @@
 // Loads the proved module, calls the module's functions, and keeps track of the free places in the module's memory. Only this file
 // uses the names that the module exports. jcobs.js has the calls that users make.
 
-// enum jcobs_status and enum jcobs_kind of jcobs.h
+// enum jcobs_status of jcobs.h
 const OK = 0;
 const TOO_SMALL = 2;
 const BROKEN = 3;
-const KINDS = ["notAFrame", "canonical", "longer"];
 
 const WASM_PAGE = 65536;
 const ANSWER_SIZE = 64;              // bytes for a jcobs_answer, at the front of the free memory
 const SCRATCH_SIZE = 1 << 22;        // bytes of memory for a call; a call that needs more gets a separate memory
-const STATE_SIZE = 64;        // bytes for a jcobs_decoder or a jcobs_encoder
+const STATE_SIZE = 64;        // bytes for a jcobs_decoder
 const CHUNK_SIZE = 1 << 14;          // how many bytes of a stream are copied into the module at a time
 const NEAR = 1024;             // a call is short if it gets at most this many bytes; short calls write their results to a fixed place
 const LONG = 4096;                   // a result of at least this many bytes is copied without `slice`
 const MEMORY_LIMIT = 2 ** 32;        // the first address that doesn't fit in the module's 32 bits
 
-/** The names that cobs.wasm exports. */
+/** The names that cobs.wasm exports. The tests make the calls that this file doesn't make. */
 const CALLS = [
   "memory",
   "__heap_base",
@@ -122,10 +121,6 @@ class Machine {
     return this.#answer();
   }
 
-  frameKind(length) {
-    return this.#calls.jcobs_frame_kind(this.scratchAt, length);
-  }
-
   /** Returns a decoder in the initial state, with its state and its buffer at these addresses. */
   decoder(state, buffer, room) {
     const [calls, answerAt] = [this.#calls, this.answerAt];
@@ -136,22 +131,6 @@ class Machine {
         return this.#answer();
       },
       isIdle: () => calls.jcobs_decoder_is_idle(state) !== 0,
-    };
-  }
-
-  /** Returns an encoder in the initial state, with its state and its buffer at these addresses. */
-  encoder(state, buffer, room) {
-    const [calls, answerAt] = [this.#calls, this.answerAt];
-    calls.jcobs_encoder_reset(state);
-    return {
-      push: (at, length) => {
-        calls.jcobs_encoder_push(answerAt, state, buffer, room, at, length);
-        return this.#answer();
-      },
-      finish: () => {
-        calls.jcobs_encoder_finish(answerAt, state, buffer, room);
-        return this.#answer();
-      },
     };
   }
 
@@ -405,7 +384,6 @@ function checked(options) {
 const DECODING = { sentinel: 0 };
 const ENCODING = { sentinel: 0, terminated: false };
 const STREAM = { maxLength: 65536, sentinel: 0, skipFirst: false };
-const PIECEWISE = { maxLength: 65536, sentinel: 0 };
 
 /** Returns the length of the longest frame that a message of `length` bytes can have, not counting sentinels. */
 function maxEncodedLength(length) {
@@ -464,23 +442,10 @@ function decode(frame, options) {
   throw new CobsError("empty", "there is no frame to decode: there are no bytes, or only sentinels");
 }
 
-/**
- * Returns "canonical" if the bytes are a frame that `encode` returns, "longer" if they are such a frame followed by a needless
- * block, which has only its code (01 for the sentinel 0), and "notAFrame" if they aren't a frame.
- */
-function frameKind(frame, options) {
-  const bytes = bytesOf(frame);
-  const { sentinel } = optionsOf(options, DECODING);
-  const machine = machineFor(bytes.length);
-  machine.write(bytes, machine.scratchAt, sentinel);
-  return KINDS[machine.frameKind(bytes.length)];
-}
-
 const abandoned = typeof FinalizationRegistry === "function" ? new FinalizationRegistry(({ arena, place }) => arena.give(place)) : null;
 
 /**
- * A place in the shared memory for a state, a chunk and a buffer. The owner of the place is a decoder or an encoder. `close` frees
- * the place. The place is also freed if its owner is garbage-collected.
+ * A place in the shared memory for a state, a chunk and a buffer. The owner of the place is a decoder. `close` frees the place. The place is also freed if its owner is garbage-collected.
  */
 class Held {
   #place;
@@ -630,67 +595,6 @@ function* outcomesOf(bytes, options) {
   }
 }
 
-/** Encodes messages that come in chunks. A message has up to `maxLength` bytes. */
-class FrameEncoder {
-  #held;
-  #encoder;
-  #maxLength;
-  #sentinel;
-  #taken = 0;
-
-  constructor(options) {
-    const { maxLength, sentinel } = optionsOf(options, PIECEWISE);
-    this.#maxLength = maxLength;
-    this.#sentinel = sentinel;
-    const room = maxEncodedLength(maxLength) + 1;
-    this.#held = new Held(this, room);
-    this.#encoder = this.#held.arena.machine.encoder(this.#held.state, this.#held.buffer, room);
-  }
-
-  /** The length of the message so far, in bytes. */
-  get length() {
-    return this.#taken;
-  }
-
-  /** Adds bytes to the message. If the message would become longer than `maxLength`, throws a RangeError and adds no byte. */
-  push(data) {
-    this.#demandOpen();
-    const bytes = bytesOf(data);
-    if (bytes.length > this.#maxLength - this.#taken) throw new RangeError(`the message is longer than maxLength=${this.#maxLength}`);
-    const { arena, chunk } = this.#held;
-    for (let at = 0; at < bytes.length; at += CHUNK_SIZE) {
-      const some = bytes.subarray(at, at + CHUNK_SIZE);
-      arena.machine.write(some, chunk);
-      this.#encoder.push(chunk, some.length);
-    }
-    this.#taken += bytes.length;
-  }
-
-  /** Ends the message and returns its frame, followed by a sentinel if `terminated` is true. The next `push` begins another message. */
-  finish(options) {
-    this.#demandOpen();
-    const { terminated } = optionsOf(options, { terminated: false });
-    const { length } = this.#encoder.finish();
-    this.#taken = 0;
-    const frame = this.#held.arena.machine.read(this.#held.buffer, length + (terminated ? 1 : 0), this.#sentinel);
-    if (terminated) frame[length] = this.#sentinel;
-    return frame;
-  }
-
-  #demandOpen() {
-    if (!this.#held.isOpen) throw new Error("the encoder is closed");
-  }
-
-  /** Frees the encoder's memory. */
-  close() {
-    if (this.#held.isOpen) this.#held.close();
-  }
-
-  [DISPOSE]() {
-    this.close();
-  }
-}
-
 /**
  * Makes the two ends of a stream, `readable` and `writable`, like those of a TransformStream. For each chunk, `take` is called
  * with the chunk and a function `give`. `take` calls `give` with each result. `close` is called once, however the stream ends. A
@@ -797,4 +701,4 @@ class FrameEncoderStream extends TransformStream {
   }
 }
 
-export { CobsError, FrameDecoder, FrameDecoderStream, FrameEncoder, FrameEncoderStream, decode, encode, encodeInto, frameKind, frames, isSupported, load, loadSync, maxEncodedLength };
+export { CobsError, FrameDecoder, FrameDecoderStream, FrameEncoderStream, decode, encode, encodeInto, frames, isSupported, load, loadSync, maxEncodedLength };

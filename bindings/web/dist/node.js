@@ -1,3 +1,3 @@
 // Written by pack.mjs.
 import jcobs from "./jcobs.cjs";
-export const { CobsError, FrameDecoder, FrameDecoderStream, FrameEncoder, FrameEncoderStream, decode, encode, encodeInto, frameKind, frames, isSupported, load, loadSync, maxEncodedLength } = jcobs;
+export const { CobsError, FrameDecoder, FrameDecoderStream, FrameEncoderStream, decode, encode, encodeInto, frames, isSupported, load, loadSync, maxEncodedLength } = jcobs;

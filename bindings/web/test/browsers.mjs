@@ -48,7 +48,7 @@ const COMMON = `Array ArrayBuffer Blob Boolean CustomEvent DataView Date Error F
   toLowerCase toString toTimeString toUpperCase toggle trim trimEnd trimStart validate values write writeText close call apply concat then reject`;
 
 /** Methods of this code's own objects, of the module and of Node. */
-const OWN = `about act back changedFrom codes complain countOf decoder encoder changed fault finish frameKind give goTo grow isAll isIdle isIn isNoisy isThere item left loop maxLength
+const OWN = `about act back changedFrom codes complain countOf decoder encoder changed fault finish give goTo grow isAll isIdle isIn isNoisy isThere item left loop maxLength
   mark message name note on outcome open piece placeAfter reach readFile readFileSync readInto receive refresh reset reveal send setLine show speak stage start take topOf wake whole words
   splice write jcobs_decode jcobs_decoder_is_idle jcobs_decoder_push jcobs_decoder_reset jcobs_encoder_finish jcobs_encoder_push jcobs_encoder_reset jcobs_frame_kind jcobs_max_length
   byteOf byId constructor fromhex idle parseHex`;

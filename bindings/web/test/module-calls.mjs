@@ -177,20 +177,12 @@ await check("greatest lengths", async () => {
   equal([0, 1, 5, 253, 254, 255, 508, 509].map(cobs.maxEncodedLength), [1, 2, 6, 254, 255, 257, 510, 512], "they");
   await throws(() => cobs.maxEncodedLength(-1), (error) => error instanceof RangeError, "-1");
 });
-await check("kinds of frames", () => {
-  const full = cobs.encode(new Uint8Array(254).fill(1));
-  equal(cobs.frameKind(full), "canonical");
-  equal(cobs.frameKind(bytes(...full, 1)), "longer");
-  equal(cobs.frameKind(bytes(3, 1)), "notAFrame");
-  equal(cobs.frameKind(bytes(3 ^ 7, 10 ^ 7, 11 ^ 7), { sentinel: 7 }), "canonical");
-});
 await check("long messages, past the shared memory, and short ones after them", () => {
   for (const length of [300_000, 2_000_000, 2_100_000, 9_000_000, 10]) {
     const message = randomBytes(length, 0.02, length);
     const frame = cobs.encode(message);
     equal(Buffer.compare(frame, plain.encode(message)), 0, `comparing with plain code at ${length}`);
     equal(Buffer.compare(cobs.decode(frame), message), 0, `round trip at ${length}`);
-    equal(cobs.frameKind(frame), "canonical");
   }
 });
 await check("a message that was given out stays as it is", () => {
@@ -203,10 +195,8 @@ await check("unknown options and wrong ones are errors", async () => {
     encode: (options) => cobs.encode(MESSAGE, options),
     encodeInto: (options) => cobs.encodeInto(MESSAGE, new Uint8Array(9), options),
     decode: (options) => cobs.decode(bytes(1 ^ (options?.sentinel ?? 0)), options),
-    frameKind: (options) => cobs.frameKind(FRAME, options),
     frames: (options) => cobs.frames(FRAME, options),
     FrameDecoder: (options) => new cobs.FrameDecoder(options),
-    FrameEncoder: (options) => new cobs.FrameEncoder(options),
     FrameDecoderStream: (options) => new cobs.FrameDecoderStream(options),
     FrameEncoderStream: (options) => new cobs.FrameEncoderStream(options),
   };
@@ -246,29 +236,6 @@ await check("encodeInto writes the frame alone", async () => {
     await throws(() => cobs.encodeInto(MESSAGE, short, options), (error) => error instanceof RangeError && error.message === `the frame doesn't fit the ${length} bytes of dest`, "too short");
     equal(short, new Uint8Array(length).fill(0xee), "the bytes after it");
   }
-});
-await check("a message in pieces has the frame of the whole", async () => {
-  const encoder = new cobs.FrameEncoder({ maxLength: 100_000 });
-  for (const [length, zeros, step] of [[0, 0, 1], [1, 0, 1], [254, 0, 100], [255, 0, 7], [508, 0, 254], [40_000, 0.03, 17_001], [100_000, 0, 100_000], [99_999, 0.001, 33_333]]) {
-    const message = randomBytes(length, zeros, length + 1);
-    for (let at = 0; at < length; at += step) encoder.push(message.subarray(at, at + step));
-    equal(encoder.length, length, "the length so far");
-    equal(Buffer.compare(encoder.finish({ terminated: length % 2 === 1 }), cobs.encode(message, { terminated: length % 2 === 1 })), 0, `comparing at ${length}`);
-  }
-  encoder.push(new Uint8Array(60_000));
-  await throws(() => encoder.push(new Uint8Array(40_001)), (error) => error instanceof RangeError, "a message that is too long");
-  equal(encoder.length, 60_000, "the length after it");
-  encoder.push(new Uint8Array(40_000));
-  equal(encoder.length, 100_000, "the length once it is full");
-  equal(encoder.finish(), cobs.encode(new Uint8Array(100_000)), "the frame of what was taken");
-  encoder.close();
-  encoder.close();
-  await throws(() => encoder.push(bytes(1)), (error) => /closed/.test(error.message), "a push after close");
-  await throws(() => encoder.finish(), (error) => /closed/.test(error.message), "a finish after close");
-  const other = new cobs.FrameEncoder({ sentinel: 10 });
-  other.push(MESSAGE);
-  equal(other.finish({ terminated: true }), cobs.encode(MESSAGE, { sentinel: 10, terminated: true }), "with another sentinel");
-  other.close();
 });
 await check("bytes of another realm and shared bytes are taken", () => {
   equal(cobs.encode(runInNewContext("Uint8Array.of(10, 11, 0, 12).buffer")), FRAME, "of another realm");

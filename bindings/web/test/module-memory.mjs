@@ -111,7 +111,6 @@ await check("calls about as long as the memory that they share leave an open dec
     // the call, how many bytes it puts into the memory for each byte of its argument, and a function that makes an argument
     decode: [(given) => cobs.decode(given), 2, (length) => new Uint8Array(length).fill(1)],
     encode: [(given) => cobs.encode(given), 2 + 1 / 128, (length) => new Uint8Array(length)],
-    frameKind: [(given) => cobs.frameKind(given), 1, (length) => new Uint8Array(length).fill(1)],
   };
   for (const [name, [call, times, make]] of Object.entries(calls)) {
     for (const more of [-2048, -1024, -64, 0, 64, 1024, 1100, 2048, 4096]) {

@@ -22,7 +22,7 @@ const has = (command) => {
 };
 const skip = (part, why) => console.log(`skipped: ${part}: ${why}`);
 const DIST = ["auto.cjs", "auto.js", "auto.node.js", "integrity.json", "jcobs.cjs", "jcobs.d.cts", "jcobs.js", "node.js", "serialport.cjs", "serialport.d.cts"];
-const TOP = ["LICENSE-APACHE", "LICENSE-MIT", "README.md", "auto.d.ts", "examples/first.js", "examples/serial.js", "external.d.ts", "jcobs.d.ts", "package.json", "serialport.d.ts", "serialport.js"];
+const TOP = ["LICENSE-APACHE", "LICENSE-MIT", "README.md", "auto.d.ts", "examples/first.js", "examples/serial.js", "jcobs.d.ts", "package.json", "serialport.d.ts", "serialport.js"];
 const PACKED = [...TOP, ...DIST.map((name) => `dist/${name}`)].sort();
 const SAID = "3 10 11 2 12\n10 11 0 12\n3 10 11 2 12 0\n9 0 1 8 6\n";
 
@@ -118,10 +118,6 @@ try {
     await writeFile(join(folder, "autos.mjs"), 'import { encode } from "jcobs/auto";\nimport * as jcobs from "jcobs";\nconsole.log(encode === jcobs.encode, jcobs.encode(Uint8Array.of(0)).join());\n');
     equal(run("node", "autos.mjs"), "true 1,1\n", "what it prints");
   });
-  await check("jcobs/external, the name of a form with its file beside it, is jcobs by now", async () => {
-    await writeFile(join(folder, "external.mjs"), first.replace('"jcobs"', '"jcobs/external"'));
-    equal(run("node", "external.mjs"), SAID, "what it prints");
-  });
   await check("a program of CommonJS has frames without a promise", async () => {
     await writeFile(join(folder, "sync.cjs"), first.replace(/^import (.*) from "jcobs";/, 'const $1 = require("jcobs");').replace(/load\b/, "loadSync").replace("load().then(() => {\n", "loadSync();\n").replace(/\}\);\n$/, ""));
     equal(run("node", "sync.cjs"), SAID, "what it prints");
@@ -168,7 +164,6 @@ try {
       'import { decode } from "jcobs";',
       'import { encode } from "jcobs/auto";',
       'import { FrameDecoderTransform } from "jcobs/serialport";',
-      'export { load } from "jcobs/external";',
       "export const use = (bytes: Uint8Array): Uint8Array => decode(encode(bytes));",
       'export type Kept = FrameDecoderTransform["skipped"];',
       "export const none: Kept = 0;",

@@ -1,5 +1,5 @@
 // Uses the package without the types of a browser or of Node, that is, with a `lib` that has no `dom`.
-import { FrameDecoder, FrameEncoder, type Outcome, decode, encode, load, loadSync } from "../jcobs.js";
+import { FrameDecoder, type Outcome, decode, encode, load, loadSync } from "../jcobs.js";
 
 export async function use(bytes: Uint8Array): Promise<number> {
   await load(bytes);
@@ -8,7 +8,5 @@ export async function use(bytes: Uint8Array): Promise<number> {
   const seen: Outcome[] = [];
   decoder.push(encode(bytes, { terminated: true }), (outcome) => seen.push(outcome));
   decoder[Symbol.dispose]();
-  const encoder = new FrameEncoder();
-  encoder[Symbol.dispose]();
   return seen.length + decode(encode(bytes)).length;
 }

@@ -1,2 +1,0 @@
-// Declares the types of jcobs/external for a module resolution that doesn't read the field "exports" of package.json, such as TypeScript's `node`.
-export * from "./jcobs.js";
