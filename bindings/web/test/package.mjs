@@ -7,6 +7,7 @@ import { createRequire } from "node:module";
 import { tmpdir } from "node:os";
 import { join } from "node:path";
 import { fileURLToPath, pathToFileURL } from "node:url";
+import { gzipSync } from "node:zlib";
 import { FakePort } from "./port.js";
 import { check, equal, holds, report, until } from "./tally.mjs";
 
@@ -126,6 +127,11 @@ try {
     const base64 = await readFile(join(web, "cobs.wasm"), "base64");
     const texts = await Promise.all(PACKED.map(async (name) => [name, await readFile(join(web, name), "utf8")]));
     equal(texts.filter(([, text]) => text.includes(base64)).map(([name]) => name), ["dist/jcobs.cjs", "dist/jcobs.js"], "the files that have it");
+  });
+  await check("README.md has the size of the file for a page", async () => {
+    const [readme, file] = await Promise.all([readFile(join(web, "README.md"), "utf8"), readFile(join(web, "dist/jcobs.js"))]);
+    const kilobytes = [file.length, gzipSync(file, { level: 9 }).length].map((length) => Math.round(length / 1000));
+    holds(readme.includes(`has ${kilobytes[0]} kB, ${kilobytes[1]} kB after gzip`), `it has ${kilobytes} kB`);
   });
   await check("the sums of integrity.json are those of the files", async () => {
     const sums = JSON.parse(await readFile(join(web, "dist/integrity.json"), "utf8"));
