@@ -344,13 +344,15 @@ function changeKind() {
 async function copy() {
   const form = byId("message-form").value;
   const shown = typed ?? frame;
-  const bytes = byId("message-ended").checked ? joined([shown, [sentinel]]) : shown;
-  const text = bytes.length === 0 ? "" : FORMS[form](bytes, { sentinel, pieces: Array.from({ length: pieces.ended }, (_, at) => pieces.piece(at)) });
+  const isEnded = byId("message-ended").checked;
+  const bytes = isEnded ? joined([shown, [sentinel]]) : shown;
+  const call = typed ? null : { message, sentinel, isEnded };
+  const text = bytes.length === 0 ? "" : FORMS[form](bytes, { sentinel, call, pieces: Array.from({ length: pieces.ended }, (_, at) => pieces.piece(at)) });
   const said = byId("message-copied");
   if (!isFrameRead()) said.textContent = "Nothing is copied, because the text in Frame can't be read.";
   else if (text === "") said.textContent = "There is nothing to copy.";
-  else if (text === null) said.textContent = "The frame is too long for a picture.";
-  else if (await toClipboard(text)) said.textContent = `${counted(bytes.length, "byte")} copied.`;
+  else if (text === null) said.textContent = form === "svg" ? "The frame is too long for a picture." : "No call makes these bytes from the message.";
+  else if (await toClipboard(text)) said.textContent = form.endsWith("-call") ? "The call is copied." : `${counted(bytes.length, "byte")} copied.`;
   else {
     if (!byId("message-frame-edit").hidden) byId("message-frame-edit").select();
     else getSelection().selectAllChildren(byId("message-frame"));

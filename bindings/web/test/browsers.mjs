@@ -51,7 +51,7 @@ const COMMON = `Array ArrayBuffer Blob Boolean CustomEvent DataView Date Error F
 const OWN = `about act back changedFrom codes complain countOf decoder encoder changed fault finish give goTo grow isAll isIdle isIn isNoisy isThere item left loop maxLength
   mark message name note on outcome open piece placeAfter reach readFile readFileSync readInto receive refresh reset reveal send setLine show speak stage start take topOf wake whole words
   splice write jcobs_decode jcobs_decoder_is_idle jcobs_decoder_push jcobs_decoder_reset jcobs_encoder_finish jcobs_encoder_push jcobs_encoder_reset jcobs_frame_kind jcobs_max_length
-  byteOf byId constructor fromhex idle parseHex`;
+  byteOf byId c constructor fromhex idle parseHex python rust`;
 
 const listed = (text) => text.split(/\s+/);
 const known = new Set([...listed(COMMON), ...listed(OWN), ...listed(GUARDED), ...Object.keys(SINCE)]);

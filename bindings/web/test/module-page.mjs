@@ -65,6 +65,20 @@ await check("a frame is copied for a program", () => {
   holds(/^<svg [\s\S]*<\/svg>\n$/.test(as("svg")), "a picture");
   equal(as("svg", new Uint8Array(66)), null, "of a long frame");
 });
+await check("the call that makes a frame is copied for a program", () => {
+  const as = (form, call) => FORMS[`${form}-call`](FRAME, { call: call && { message: MESSAGE, sentinel: 0, isEnded: false, ...call } });
+  equal(["c", "rust", "python"].map((form) => as(form, {})), [
+    "static const unsigned char message[4] = {0x0a, 0x0b, 0x00, 0x0c};\nunsigned char frame[JCOBS_MAX_LENGTH(4) + 1];\njcobs_answer answer = jcobs_encode(message, sizeof message, frame, sizeof frame);\n",
+    "let frame = jcobs::encode_vec(&[0x0a, 0x0b, 0x00, 0x0c]);\n",
+    'frame = jcobs.encode(bytes.fromhex("0a 0b 00 0c"))\n',
+  ], "of a frame");
+  equal(["c", "rust", "python"].map((form) => as(form, { message: bytes(), sentinel: 10, isEnded: true })), [
+    "unsigned char frame[JCOBS_MAX_LENGTH(0) + 1];\njcobs_answer answer = jcobs_encode_terminated_with_sentinel(NULL, 0, frame, sizeof frame, 0x0a);\n",
+    "let mut frame = jcobs::encode_vec_with_sentinel(&[], 0x0a);\nframe.push(0x0a);\n",
+    'frame = jcobs.encode(bytes.fromhex(""), sentinel=0x0a, terminated=True)\n',
+  ], "of the empty message, with a sentinel");
+  equal(["c", "rust", "python"].map((form) => as(form, null)), [null, null, null], "of bytes that no call makes");
+});
 await check("the page writes and reads logs, and gives the stream that came in", () => {
   const time = new Date("2026-11-23T10:00:00.125Z");
   const row = (way, given) => ({ time, way, ...given });

@@ -189,6 +189,16 @@ await check("message: a link gives the same message, and text becomes bytes and 
   equal(await page.value("navigator.clipboard.readText()"), "static const unsigned char frame[5] = {0xae, 0xc2, 0x69, 0x03, 0xaa};\n", "as C, with the sentinel");
 }));
 
+await check("message: the call that makes the frame is copied, and of a broken frame none", () => on("message", async (page) => {
+  await page.value('document.getElementById("message-form").value = "python-call"');
+  await page.click("#message-copy");
+  await page.until('document.getElementById("message-copied").textContent === "The call is copied."');
+  equal(await page.value("navigator.clipboard.readText()"), 'frame = jcobs.encode(bytes.fromhex("0a 0b 00 0c"))\n', "the call");
+  await page.fill("#message-frame-edit", "05 0a");
+  await page.click("#message-copy");
+  await page.until('document.getElementById("message-copied").textContent === "No call makes these bytes from the message."');
+}));
+
 await check("message: a frame that is edited changes its message", () => on("message", async (page) => {
   for (const [sentinel, frame] of [["00", "03 0a 0b 02 0c"], ["aa", "a9 a0 a1 a8 a6"]]) {
     await page.fill("#message-sentinel", sentinel);
