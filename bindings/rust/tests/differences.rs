@@ -4,6 +4,7 @@
 
 use std::error::Error;
 use std::panic;
+use std::thread;
 
 use jcobs::{
     ArrayVec, CobsDecoder, CobsDecoderHeapless, CobsDecoderOwned, CobsEncoder, DecodeError,
@@ -310,4 +311,24 @@ fn push_counts_what_it_took() {
             assert_eq!(report.parsed_size(), decoder.parsed_size());
         }
     }
+}
+
+/// Even in a debug build a call needs little stack, as in the crate `cobs`. If it needed more, the test would abort.
+#[test]
+fn stack_of_16_kib_is_enough() {
+    let calls = || {
+        let (message, mut frame, mut dest) = ([7; 249], [0; 251], [0; 250]);
+        let len = encode(&message, &mut frame);
+        let mut encoder = CobsEncoder::new(&mut dest);
+        encoder.push(&message).unwrap();
+        assert_eq!((len, encoder.finalize()), (250, 250));
+
+        let report = CobsDecoder::new(&mut dest).push(&frame).unwrap();
+        assert_eq!(report.unwrap().frame_size(), 249);
+        assert_eq!(decode(&frame, &mut dest).unwrap().frame_size(), 249);
+        assert_eq!(decode_with_sentinel(&frame, &mut dest, 0), Ok(249));
+        assert_eq!(decode_in_place(&mut frame), Ok(249));
+    };
+    let thread = thread::Builder::new().stack_size(16 * 1024).spawn(calls);
+    thread.unwrap().join().unwrap();
 }
