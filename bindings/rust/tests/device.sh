@@ -2,8 +2,8 @@
 # Builds the crate for targets without an operating system, runs it on a Cortex-M4 in QEMU, and measures its flash.
 #
 # rustup's compiler has no library for these targets, so Debian's compiler builds `core` from Debian's source (packages
-# rustc-web and rust-web-src; RUST_SRC names another folder `library`). The Cortex-M4 runs the C tests of tests/device.sh of the
-# repository with the crate, which exports the calls of `jcobs.h` (device/exports.rs).
+# rustc-web and rust-web-src; RUSTC names another compiler, and RUST_SRC another folder `library`). The Cortex-M4 runs the C
+# tests of tests/device.sh of the repository with the crate, which exports the calls of `jcobs.h` (device/exports.rs).
 #
 # Prints a line for each part; the last line counts them.
 #
@@ -14,7 +14,7 @@ root=$(cd "$rust/../.." && pwd)
 here=$rust/tests/device
 # shellcheck source=SCRIPTDIR/../../../tests/count.sh
 . "$root/tests/count.sh"
-compiler=/usr/bin/rustc
+compiler=${RUSTC:-/usr/bin/rustc}
 version=$("$compiler" --version 2>/dev/null | sed -n 's/^rustc \([0-9.]*\).*/\1/p')
 for library in "${RUST_SRC:-}" "/usr/src/rustc-$version/library" "/usr/src/rustc-web-$version/library"; do
     [ ! -f "$library/core/src/lib.rs" ] || break
@@ -37,9 +37,9 @@ core() { # TARGET
     mkdir -p "$work/$1" "$work/sysroot/lib/rustlib/$1/lib"
     printf '#![no_std]\n#![feature(compiler_builtins, staged_api)]\n#![compiler_builtins]\n#![unstable(feature = "x", issue = "none")]\n' \
         >"$work/builtins.rs"
-    # Only one target is run and measured.
+    # Only one target is run and measured, with a `core` like rustup's: optimized for speed, and for no processor.
     level=0
-    [ "$1" != thumbv7em-none-eabi ] || level=s
+    [ "$1" != thumbv7em-none-eabi ] || level=3
     RUSTC_BOOTSTRAP=1 crate "$1" core "$library/core/src/lib.rs" --edition 2024 -Z force-unstable-if-unmarked &&
         RUSTC_BOOTSTRAP=1 crate "$1" compiler_builtins "$work/builtins.rs" --edition 2021 -Z force-unstable-if-unmarked \
             --extern "core=$work/$1/libcore.rlib" &&
@@ -48,9 +48,12 @@ core() { # TARGET
 
 builds() { # TARGET
     core "$1" || return 1
-    level=s
-    crate "$1" stepped "$rust/src/lib.rs" --edition 2021 && crate "$1" memchr "$memchr/src/lib.rs" --edition 2018 &&
-        crate "$1" fast "$rust/src/lib.rs" --edition 2021 --cfg 'feature="fast"' --extern "memchr=$work/$1/libmemchr.rlib"
+    for level in s 3; do
+        crate "$1" "stepped_$level" "$rust/src/lib.rs" --edition 2021 &&
+            crate "$1" "memchr_$level" "$memchr/src/lib.rs" --edition 2018 &&
+            crate "$1" "fast_$level" "$rust/src/lib.rs" --edition 2021 --cfg 'feature="fast"' \
+                --extern "memchr=$work/$1/libmemchr_$level.rlib" || return 1
+    done
 }
 
 # The cases whose calls exports.rs has.
@@ -87,9 +90,10 @@ cases() { # LIBRARY
 
 # Measures how many bytes of flash a call adds to a program for the Cortex-M4.
 size() { # LIBRARY CALL LTO: the bytes of code and data of the program that makes it
+    by=$1 called=$2
     "$compiler" --sysroot "$work/sysroot" --target thumbv7em-none-eabi --edition 2021 --crate-type staticlib --crate-name sizes \
-        -C panic=abort -C opt-level=s -C "lto=$3" -C codegen-units=1 -C target-cpu=cortex-m4 --cfg "call=\"$2\"" --cap-lints allow \
-        --out-dir "$work" -L "$work/thumbv7em-none-eabi" --extern "by=$work/thumbv7em-none-eabi/lib$1.rlib" \
+        -C panic=abort -C "opt-level=${by#*_}" -C "lto=$3" -C codegen-units=1 --cfg "call=\"$called\"" --cap-lints allow \
+        --out-dir "$work" -L "$work/thumbv7em-none-eabi" --extern "by=$work/thumbv7em-none-eabi/lib$by.rlib" \
         "$rust/tests/targets/sizes.rs" &&
         arm-none-eabi-gcc -mcpu=cortex-m4 -mthumb -nostartfiles -Wl,--gc-sections -Wl,-estart -Wl,-u,start \
             "$work/libsizes.a" -lc -o "$work/sized" 2>"$work/linked" &&
@@ -97,28 +101,25 @@ size() { # LIBRARY CALL LTO: the bytes of code and data of the program that make
 }
 
 # Says whether nothing of the linked program panics or formats a text: a user of the call gets no panic of `core` with it.
-panics_not() { # CALL
-    if arm-none-eabi-nm -C "$work/sized" | grep 'core::\(panicking\|fmt\|slice\)::'; then
-        echo "$1 can panic"
-        return 1
-    fi
+panics_not() {
+    ! arm-none-eabi-nm -C "$work/sized" | grep 'core::\(panicking\|fmt\|slice\|str\)::'
 }
 
-without_lto() {
-    for call in feed push encoder decode sentinel 'in place'; do
-        size stepped "$call" off >"$work/bytes" && panics_not "$call" || return 1
-    done
+# The documented panic of `encode` is found, so others would be found too.
+seen() {
+    size stepped_s encode off && ! panics_not
 }
 
-sizes() { # LIBRARY MOST
+sizes() { # LIBRARY LTO MOST: no call takes more, and no call panics
     found='bytes of flash'
-    none=$(size "$1" none fat) || { cat "$work/linked"; return 1; }
-    for call in feed push encoder decode sentinel 'in place' encode; do
-        bytes=$(size "$1" "$call" fat) || { cat "$work/linked"; return 1; }
+    none=$(size "$1" none "$2") || { cat "$work/linked"; return 1; }
+    for call in $(sed -n 's/^#\[cfg(call = "\(.*\)")\]/\1/p' "$rust/tests/targets/sizes.rs" | grep -vx none | tr ' ' _); do
+        call=$(echo "$call" | tr _ ' ')
+        bytes=$(size "$1" "$call" "$2") || { cat "$work/linked"; return 1; }
         found="$found, $call $((bytes - none))"
-        # The panic of `encode` is documented.
-        [ "$call" = encode ] || panics_not "$call" || return 1
-        [ $((bytes - none)) -le "$2" ] || { echo "$call takes $((bytes - none)) bytes"; return 1; }
+        # The panics of `encode` and of `encode_in_place` are documented.
+        case $call in encode | 'encode in place') ;; *) panics_not || { echo "$call can panic"; return 1; } ;; esac
+        [ $((bytes - none)) -le "$3" ] || { echo "$call takes $((bytes - none)) bytes"; return 1; }
     done
     echo "= $found"
 }
@@ -128,12 +129,16 @@ for target in thumbv7em-none-eabi thumbv6m-none-eabi riscv32imac-unknown-none-el
 done
 if has arm-none-eabi-gcc gcc-arm-none-eabi 'on a Cortex-M4' &&
     has /usr/lib/arm-none-eabi/include/stdio.h libnewlib-arm-none-eabi 'on a Cortex-M4'; then
-    part 'sizes' sizes stepped 500
-    part 'no panic without LTO' without_lto
-    part 'sizes, with `fast`' sizes fast 2000
+    part 'a panic is seen' seen
+    for lto in off fat; do
+        part "at opt-level s, LTO $lto" sizes stepped_s "$lto" 600
+        part "at opt-level 3, LTO $lto" sizes stepped_3 "$lto" 800
+        part "at opt-level s, LTO $lto, with \`fast\`" sizes fast_s "$lto" 2000
+        part "at opt-level 3, LTO $lto, with \`fast\`" sizes fast_3 "$lto" 2500
+    done
     if has qemu-system-arm qemu-system-arm 'on a Cortex-M4'; then
-        part 'the cases on a Cortex-M4' cases stepped
-        part 'the cases on a Cortex-M4, with `fast`' cases fast
+        part 'the cases on a Cortex-M4' cases stepped_s
+        part "the cases on a Cortex-M4, with \`fast\`" cases fast_s
     fi
 fi
 finish
