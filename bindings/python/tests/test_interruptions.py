@@ -134,7 +134,6 @@ class Alarms:
         self.armed = True
         while step():
             pass
-        self.armed = False
 
     def run(self, step):
         """Calls the step again and again, until it returns false, or raises an EOFError."""
@@ -142,12 +141,13 @@ class Alarms:
         going = True
         while going:
             try:
-                self.repeat(step)  # a call, as `try` misses what is raised at the jump of a loop in it on CPython 3.13
-                going = False
+                try:
+                    self.repeat(step)  # a call, as `try` misses what is raised at the jump of a loop on CPython 3.13
+                except EOFError:
+                    pass
+                going = self.armed = False
             except Interruption:
                 pass
-            except EOFError:
-                going = self.armed = False
         signal.setitimer(signal.ITIMER_REAL, 0)
 
 
@@ -159,6 +159,7 @@ def alarms(limit):
     gc.disable()
     made = Alarms()
     yield made
+    signal.signal(signal.SIGALRM, signal.SIG_IGN)  # its handler sets the timer again
     signal.setitimer(signal.ITIMER_REAL, 0)
     signal.signal(signal.SIGALRM, made.before)
     gc.enable()
