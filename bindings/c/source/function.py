@@ -15,7 +15,7 @@ class Function(Statements):
     def __init__(self, out, crate, path, item):
         self.out, self.crate, self.path = out, crate, path
         _, self.name, self.params, self.result, self.body, self.docs, self.attributes = item
-        self.key, self.is_above = (path, self.name), False
+        self.key, self.is_above, self.is_below = (path, self.name), False, False
         self.is_exported = any("no_mangle" in it for it in self.attributes)
         self.name_here = self.name  # the name of the function whose body this is
         self.passed = {}  # the body's names of this function's parameters

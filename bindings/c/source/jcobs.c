@@ -326,6 +326,7 @@ static JCOBS_INLINE void jcobs_encoder_append_byte(jcobs_encoder *encoder, unsig
     encoder->taken = (unsigned char)code;
 }
 
+#ifndef JCOBS_FAST
 /* Encodes `bytes` one by one. The caller ensures that there is room for them. */
 static JCOBS_INLINE void jcobs_encoder_append_steps(jcobs_encoder *encoder, unsigned char *dest,
                                                     const unsigned char *bytes, size_t len)
@@ -339,6 +340,7 @@ static JCOBS_INLINE void jcobs_encoder_append_steps(jcobs_encoder *encoder, unsi
     }
     *encoder = state;
 }
+#endif
 
 /* Encodes `bytes` as the next bytes of the message. The caller ensures that there is room for them. The code of
  * the open block isn't written yet: jcobs_encoder_close_block writes it at the end of the message. */

@@ -139,7 +139,9 @@ class Statements(Expressions):
         self.block(many, returns)
         self.is_above = False
         self.lines.append("#else")
+        self.is_below = True
         self.block(few[:-1] if few[-1] == ("return", None) else few, returns)
+        self.is_below = False
         self.lines.append("#endif")
 
     def do_comment(self, statement):

@@ -44,7 +44,7 @@ class Output:
         """Returns the name of a function in C. At the first call for a function, the function is written."""
         crate, path, item = found
         key = (path, item[1])
-        self.callers.setdefault(key, []).append((caller.key, caller.is_above) if caller else None)
+        self.callers.setdefault(key, []).append((caller.key, caller.is_above, caller.is_below) if caller else None)
         if key not in self.names:
             made = Function(self, crate, path, item)
             if made.is_exported and (inner := self.only_passes_on(found)) and len(inner[1]) == len(item[2]):
@@ -172,19 +172,24 @@ class Output:
         """Returns whether a function is only called above the threshold."""
         return key is not None and all(it and (it[1] or self.is_above(it[0])) for it in self.callers[key] if not it or it[0] != key)
 
+    def compiled_only(self, key):
+        """Returns the line before a function that is called only with JCOBS_FAST, or only without it."""
+        if self.is_above(key):
+            return "#ifdef JCOBS_FAST"
+        return "#ifndef JCOBS_FAST" if key is not None and all(it and it[2] for it in self.callers[key]) else ""
+
     def functions(self):
-        """Yields the functions. Those that are only called above the threshold are compiled only with JCOBS_FAST."""
-        above = False
+        """Returns the functions. Those that are called only with JCOBS_FAST, or only without it, are compiled only then."""
+        before = ""
         found = []
         for key, text in self.texts:
             below = re.sub(r"#ifdef JCOBS_FAST\n.*?#(else|endif)", "", text, flags=re.S)
             if not self.is_above(key) and re.search(r"\bmem\w+\(", below):
                 raise Unknown(f"{key}: a function of the C library without JCOBS_FAST")
-            if self.is_above(key) != above:
-                above = not above
-                text = f"#ifdef JCOBS_FAST\n{text}" if above else text
-                if not above:
-                    found[-1] += "\n#endif"
+            only = self.compiled_only(key)
+            if only != before:
+                found[-1] += "\n#endif" if before else ""
+                text, before = f"{only}\n{text}" if only else text, only
             found.append(text)
         return found
 

@@ -3,7 +3,7 @@
 
 This script runs the Rattle functions of the calls of jcobs.h itself, statement by statement, and compares each call with the same call of
 the compiled jcobs.c: the result, the state and every byte of the buffers must be the same. It shares no code with translate.py. With
-JCOBS_FAST the threshold SHORT has its value, and without JCOBS_FAST it is greater than each length. The script also checks that no
+JCOBS_FAST the threshold SHORT has its value, and without JCOBS_FAST it is usize::MAX. The script also checks that no
 number of Rattle overflows, and that the calls reach each block of statements of the functions that they call, except those of UNREACHED.
 
 It prints the first difference. If there is one, the status is 1.
@@ -767,7 +767,7 @@ def main():
     program, found = Program(), []
     short = int(program.constants["SHORT"][0])
     with tempfile.TemporaryDirectory() as work:
-        found += compared(program, compiled(work), 2**32)
+        found += compared(program, compiled(work), LIMITS["usize"])
         found += compared(program, compiled(work, "-DJCOBS_FAST"), short)
     if not found:
         for path, name, _, body in program.blocks.values():
