@@ -300,6 +300,57 @@ static JCOBS_ONCE size_t jcobs_find(const unsigned char *source, size_t source_l
     return source_len;
 }
 
+#ifdef JCOBS_FAST
+/* Encodes `bytes`, as jcobs_encoder_append_steps does, in stretches. The caller ensures that there is room for
+ * them. */
+static JCOBS_INLINE void jcobs_encoder_append_stretches(jcobs_encoder *encoder, unsigned char *dest,
+                                                        const unsigned char *bytes, size_t len)
+{
+    size_t index = encoder->index;
+    size_t next = index + encoder->taken + 1;
+    unsigned char full = encoder->full;
+    size_t read = 0;
+    /* The length of the last run. After a long run, the end of the next one is searched for, too. */
+    size_t run = JCOBS_SHORT;
+
+    while (read < len) {
+        /* The open block has room for the bytes before index `end`. */
+        size_t end = read + jcobs_min(len - read, JCOBS_FULL_CODE - (next - index));
+        size_t copied = 0;
+        if (end - read > JCOBS_SHORT) {
+            if (run < JCOBS_SHORT) {
+                end = read + (JCOBS_SHORT - run);
+            } else {
+                copied = jcobs_find(bytes + read, end - read, 0);
+                memcpy(dest + next, bytes + read, copied);
+                next += copied;
+                read += copied;
+                end = jcobs_min(end, read + 1);
+            }
+        }
+        for (size_t i = read; i < end; i++) {
+            unsigned char byte = bytes[i];
+            dest[next] = byte;
+            dest[index] = (unsigned char)(next - index);
+            index = byte == 0 ? next : index;
+            next++;
+        }
+        read = end;
+        run = jcobs_max(copied, next - index - 1);
+        full = 0;
+        if (next - index == JCOBS_FULL_CODE) {
+            dest[index] = JCOBS_FULL_CODE;
+            index = next;
+            next++;
+            full = 1;
+        }
+    }
+    encoder->index = index;
+    encoder->taken = (unsigned char)(next - index - 1);
+    encoder->full = full;
+}
+#endif
+
 /* Encodes the next byte of the message. The caller ensures that there is room for the byte. */
 static JCOBS_INLINE void jcobs_encoder_append_byte(jcobs_encoder *encoder, unsigned char *dest, unsigned char byte)
 {
@@ -347,49 +398,9 @@ static JCOBS_INLINE void jcobs_encoder_append_steps(jcobs_encoder *encoder, unsi
 static JCOBS_INLINE void jcobs_encoder_append(jcobs_encoder *encoder, unsigned char *dest, const unsigned char *bytes,
                                               size_t len)
 {
+    /* Where no run is searched, stretches would be the same steps in more code. */
 #ifdef JCOBS_FAST
-    size_t index = encoder->index;
-    size_t next = index + encoder->taken + 1;
-    unsigned char full = encoder->full;
-    size_t read = 0;
-    /* The length of the last run. After a long run, the end of the next one is searched for, too. */
-    size_t run = JCOBS_SHORT;
-
-    while (read < len) {
-        /* The open block has room for the bytes before index `end`. */
-        size_t end = read + jcobs_min(len - read, JCOBS_FULL_CODE - (next - index));
-        size_t copied = 0;
-        if (end - read > JCOBS_SHORT) {
-            if (run < JCOBS_SHORT) {
-                end = read + (JCOBS_SHORT - run);
-            } else {
-                copied = jcobs_find(bytes + read, end - read, 0);
-                memcpy(dest + next, bytes + read, copied);
-                next += copied;
-                read += copied;
-                end = jcobs_min(end, read + 1);
-            }
-        }
-        for (size_t i = read; i < end; i++) {
-            unsigned char byte = bytes[i];
-            dest[next] = byte;
-            dest[index] = (unsigned char)(next - index);
-            index = byte == 0 ? next : index;
-            next++;
-        }
-        read = end;
-        run = jcobs_max(copied, next - index - 1);
-        full = 0;
-        if (next - index == JCOBS_FULL_CODE) {
-            dest[index] = JCOBS_FULL_CODE;
-            index = next;
-            next++;
-            full = 1;
-        }
-    }
-    encoder->index = index;
-    encoder->taken = (unsigned char)(next - index - 1);
-    encoder->full = full;
+    jcobs_encoder_append_stretches(encoder, dest, bytes, len);
 #else
     jcobs_encoder_append_steps(encoder, dest, bytes, len);
 #endif

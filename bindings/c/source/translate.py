@@ -187,6 +187,8 @@ class Output:
             if not self.is_above(key) and re.search(r"\bmem\w+\(", below):
                 raise Unknown(f"{key}: a function of the C library without JCOBS_FAST")
             only = self.compiled_only(key)
+            if only == "#ifdef JCOBS_FAST":  # then its parts needn't say so
+                text = re.sub(r"#ifdef JCOBS_FAST\n(.*?)(?:#else\n.*?)?#endif\n", r"\1", text, flags=re.S)
             if only != before:
                 found[-1] += "\n#endif" if before else ""
                 text, before = f"{only}\n{text}" if only else text, only

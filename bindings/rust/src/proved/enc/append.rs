@@ -69,20 +69,15 @@ impl UnbufferedEncoder {
         *self = state;
     }
 
-    /// Encodes `bytes` as the next bytes of the message. The caller ensures that there is room for them. The code of the
-    /// open block isn't written yet: [`close`](UnbufferedEncoder::close) writes it at the end of the message.
+    /// Encodes `bytes`, as [`append_steps`](UnbufferedEncoder::append_steps) does, in stretches. The caller ensures that
+    /// there is room for them.
     ///
     /// A run of more than `SHORT` bytes is searched for its end, and copied as slices. Other bytes are copied one by one.
     /// A block begins at the copy of each zero, and the code of this block is later written over the zero. No branch
     /// tests whether a byte is a zero, because a processor could mispredict that branch. Instead, at each byte the
-    /// function writes a code for the open block, as if this byte were the zero that ends the block. If no run is searched,
-    /// [`append_steps`](UnbufferedEncoder::append_steps) does the same in less code.
+    /// function writes a code for the open block, as if this byte were the zero that ends the block.
     #[inline(always)]
-    pub(crate) fn append(&mut self, dest: &mut [u8], bytes: &[u8]) {
-        if SHORT == usize::MAX {
-            self.append_steps(dest, bytes);
-            return;
-        }
+    fn append_stretches(&mut self, dest: &mut [u8], bytes: &[u8]) {
         let mut index = self.index;
         let mut next = index + self.taken as usize + 1;
         let mut full = self.full;
@@ -124,6 +119,18 @@ impl UnbufferedEncoder {
         self.index = index;
         self.taken = (next - index - 1) as u8;
         self.full = full;
+    }
+
+    /// Encodes `bytes` as the next bytes of the message. The caller ensures that there is room for them. The code of the
+    /// open block isn't written yet: [`close`](UnbufferedEncoder::close) writes it at the end of the message.
+    #[inline(always)]
+    pub(crate) fn append(&mut self, dest: &mut [u8], bytes: &[u8]) {
+        // Where no run is searched, stretches would be the same steps in more code.
+        if SHORT == usize::MAX {
+            self.append_steps(dest, bytes);
+        } else {
+            self.append_stretches(dest, bytes);
+        }
     }
 
     /// Writes the code of the open block, unless the frame ends with a full block, and returns the frame's length.

@@ -4,8 +4,8 @@ use Rattle.std.proofs.Common.{◌≡◌, ◌+◌, ◌-◌, ℕ, List, drop, get_
 use Rattle.std.proofs.lemmas.List.{get_or-drop, get_or-take, length-set, take-take}
 use Rattle.cobs.proofs.encoding.ReachLemmas.{Reaches-at, Reaches-code, Reaches-weaker, Reaches-zero}
 use Rattle.cobs.proofs.encoding.TakingLemmas.{front-filled, front-open, front-reaches, joined, slice-joined, written}
-use Rattle.cobs.proofs.enc.unbuffered.UnbufferedEncoder.append.Goals.{then-end-read-gt-SHORT+then-run-lt-SHORT, then-end-read-gt-SHORT+else-run-lt-SHORT, else-end-read-gt-SHORT, then-byte-eq0, else-byte-eq0}
-use Rattle.cobs.proofs.enc.unbuffered.UnbufferedEncoder.append.Goals as goal
+use Rattle.cobs.proofs.enc.unbuffered.UnbufferedEncoder.append_stretches.Goals.{then-end-read-gt-SHORT+then-run-lt-SHORT, then-end-read-gt-SHORT+else-run-lt-SHORT, else-end-read-gt-SHORT, then-byte-eq0, else-byte-eq0}
+use Rattle.cobs.proofs.enc.unbuffered.UnbufferedEncoder.append_stretches.Goals as goal
 
 -- the piece begins: its first bytes are copied as one slice, or none is
 pub by_byte-init : goal.by_byte-init

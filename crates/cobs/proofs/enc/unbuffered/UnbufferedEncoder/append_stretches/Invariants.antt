@@ -6,7 +6,7 @@ use Rattle.cobs.specs.OpenBlock.{place_at}
 use Rattle.cobs.specs.Fields.Progress.{reached_by}
 use Rattle.cobs.specs.Internal.Reaches.{Reaches, start_with}
 use Rattle.cobs.specs.Internal.Taking.{TakesFront}
-use Rattle.cobs.proofs.enc.unbuffered.UnbufferedEncoder.append.Given as goal
+use Rattle.cobs.proofs.enc.unbuffered.UnbufferedEncoder.append_stretches.Given as goal
 
 abbrev pub invariant-by_byte : goal.invariant-by_byte
 invariant-by_byte l = record {
