@@ -38,7 +38,7 @@ DECODER = [
     ("jcobs_decoder_take_steps", "no_sentinel", "byte == 0 || ", 0, "byte == 1 || "),
     ("jcobs_decoder_take_steps", "byte", "bytes[taken] ^ sentinel", 0, "bytes[taken] ^ (sentinel & 127)"),
     ("jcobs_decoder_take_steps", "steps", "decoder->joint = state.joint;", 0, ";"),
-    ("jcobs_decoder_take_run", "too_long", "decoder->too_long != 0", 0, "decoder->too_long > 1"),
+    ("jcobs_decoder_take_run", "@requires", "decoder->too_long != 0", 0, "decoder->too_long > 1"),
     ("jcobs_decoder_end_piece", "reported", "before.missing != 0", 0, "before.missing > 1"),
     ("jcobs_decoder_end_piece", "reported", "buffer_size < before.written", 0, "buffer_size <= before.written"),
     ("jcobs_decoder_end_piece", "reported", " && before.joint == 0", 0, ""),
@@ -134,7 +134,7 @@ def row(folder, environment, number, limits):
     name, clause, before, which, after = CHANGES[number - 1]
     text = changed(prove.SOURCE.read_text(), name, before, which, after)
     noticed = steps_notice(folder, text), frama_c_rejects(folder, environment, text, name, clause, limits)
-    by = {"": "the result", "@rte": "each access"}.get(clause, f"`{clause}`")
+    by = {"": "the result", "@rte": "each access", "@requires": "what a call requires"}.get(clause, f"`{clause}`")
     said = f"`{before.strip()}` is removed" if after in ("", ";") else f"`{before}` becomes `{after}`"
     words = ["noticed" if seen else "not noticed" for seen in noticed]
     return [str(number), f"`{name}`", said.replace("|", "\\|"), words[0], f"{words[1]}, by {by}"], noticed[1]
